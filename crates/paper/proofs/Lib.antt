@@ -1,0 +1,3 @@
+mod Marked
+pub mod Name
+pub mod Piece

@@ -1,0 +1,219 @@
+-- The cases that the paper marks P, proved about its definitions by one statement over one list.
+--   Claim           == what the definitions compute, and what the paper states
+--   darts w h s     == how many darts the levels 0, 1, 2 and 3 have
+--   ones t          == the darts that a table of links has, in order
+--   read t ds       == the entries of a table at some places
+--   refusal ..      == the number of joining a with b in the drawing of a sheet
+use mathlib.Core.Path.{_≡_, refl}
+use mathlib.Core.Bool.{Bool, true, false, not, _&&_}
+use mathlib.Core.List.{List, [], _∷_, map}
+use Prim.Native.Nat.{ℕ, zero, suc}
+use lib.Dec.{eqb}
+use Rattle.laws.specs.Table.{listed, table, number, count, some}
+use Rattle.laws.specs.Least.{lower, tie, ties, least}
+use Rattle.laws.specs.Run.{run}
+use Rattle.plane.specs.Size.{widest, within}
+use Rattle.plane.specs.Dart.{
+  mark,
+  points,
+  slots,
+  dart,
+  point,
+  direction,
+  beside,
+  far,
+  turned,
+  reversal,
+  stays,
+  line,
+}
+use Rattle.plane.specs.Point.{bits, half, has, corner, right, left, parts, present, degree, inline}
+use Rattle.plane.specs.Turn.{turn}
+use Rattle.paper.specs.Name.{label, west, north, names, named, cells}
+use Rattle.paper.specs.Level.{
+  side,
+  border,
+  mask,
+  next,
+  plain,
+  last,
+  along,
+  big,
+  bent,
+  tops,
+  anchor,
+  kept2,
+  kept3,
+  among,
+  level,
+  marked,
+}
+use Rattle.paper.specs.Enclosure.{first, parent, parents, above, depth, holes}
+use Rattle.paper.specs.Drawing.{Tables, drawn, drawing, fresh, recover, recovered, alike, same, judged}
+use Rattle.paper.specs.Joining.{
+  at,
+  on,
+  between,
+  shared,
+  chase,
+  removed,
+  hanging,
+  prune,
+  pruned,
+  low,
+  high,
+  spliced,
+  smooth,
+  smooths,
+  smoothed,
+  moved,
+  close,
+  closes,
+  closed,
+  joined,
+}
+use Rattle.paper.specs.Refusal.{
+  sized,
+  cleared,
+  outcome,
+  levelRefusal,
+  levelTables,
+  levelled,
+  five,
+  stated,
+  drawRefusal,
+  mapped,
+  used,
+  adjoin,
+  joinRefusal,
+  merged,
+  countRefusal,
+  deepened,
+  holed,
+}
+
+record Claim : Type 0 where
+  computed : List ℕ
+  stated : List ℕ
+
+darts : ℕ → ℕ → List ℕ → List ℕ
+darts w h s =
+    let n = names w h s in
+    map (λ l. count (slots w h) ((level w h n l) .on)) (0 ∷ 1 ∷ 2 ∷ 3 ∷ [])
+
+picked : (ℕ → Bool) → ℕ → ℕ → List ℕ
+picked f i zero = []
+picked f i (suc n) = elim (f i) [ true ↦ i ∷ picked f (suc i) n | false ↦ picked f (suc i) n ]
+
+ones : ℕ → ℕ → List ℕ → List ℕ
+ones w h t = picked (on t) 0 (slots w h)
+
+read : List ℕ → List ℕ → List ℕ
+read t ds = map (at t) ds
+
+refusal : ℕ → ℕ → List ℕ → ℕ → ℕ → List ℕ
+refusal w h s a b = (merged w h (drawing w h s) a b []) .number ∷ []
+
+-- the sheets of the cases: A is 65, B is 66, C is 67
+p1 : List ℕ
+p1 = 65 ∷ []
+
+p2 : List ℕ
+p2 = 7 ∷ 9 ∷ []
+
+p3 : List ℕ
+p3 = 7 ∷ 7 ∷ []
+
+p5 : List ℕ
+p5 = 65 ∷ 65 ∷ 65 ∷ 65 ∷ 66 ∷ 65 ∷ 65 ∷ 65 ∷ 65 ∷ []
+
+p6 : List ℕ
+p6 = 65 ∷ 65 ∷ 65 ∷ 65 ∷ 66 ∷ 65 ∷ 65 ∷ 65 ∷ 67 ∷ []
+
+p7 : List ℕ
+p7 = 65 ∷ 66 ∷ 66 ∷ 65 ∷ []
+
+p8 : List ℕ
+p8 = 65 ∷ 67 ∷ 65 ∷ 65 ∷ 66 ∷ 65 ∷ 65 ∷ 65 ∷ 65 ∷ []
+
+row : List ℕ
+row = 65 ∷ 66 ∷ 65 ∷ []
+
+accepted : ℕ → ℕ → Tables → List ℕ
+accepted w h t = number (judged w h t) ∷ []
+
+claims : List Claim
+claims =
+    -- P1: the two cycles of level 1; level 3
+    record {
+      computed = read ((drawing 1 1 p1) .next1) (0 ∷ 5 ∷ 14 ∷ 11 ∷ 1 ∷ 8 ∷ 15 ∷ 6 ∷ []);
+      stated = 5 ∷ 14 ∷ 11 ∷ 0 ∷ 8 ∷ 15 ∷ 6 ∷ 1 ∷ [];
+    }
+    ∷ record { computed = ones 1 1 ((drawing 1 1 p1) .next1); stated = 0 ∷ 1 ∷ 5 ∷ 6 ∷ 8 ∷ 11 ∷ 14 ∷ 15 ∷ [] }
+    ∷ record { computed = ones 1 1 ((drawing 1 1 p1) .next3); stated = 0 ∷ 1 ∷ [] }
+    ∷ record { computed = read ((drawing 1 1 p1) .next3) (0 ∷ 1 ∷ []); stated = 0 ∷ 1 ∷ [] }
+    ∷ record { computed = read ((drawing 1 1 p1) .other3) (0 ∷ 1 ∷ []); stated = 1 ∷ 0 ∷ [] }
+    ∷ record { computed = read ((drawing 1 1 p1) .side1) (0 ∷ 1 ∷ []); stated = 1 ∷ 0 ∷ [] }
+    ∷ record { computed = darts 1 1 p1; stated = 8 ∷ 8 ∷ 8 ∷ 2 ∷ [] }
+    -- P2: counts, the cycles of level 3, others
+    ∷ record { computed = darts 2 1 p2; stated = 14 ∷ 14 ∷ 14 ∷ 6 ∷ [] }
+    ∷ record {
+      computed = read ((drawing 2 1 p2) .next3) (4 ∷ 19 ∷ 5 ∷ 18 ∷ 6 ∷ 16 ∷ []);
+      stated = 19 ∷ 4 ∷ 18 ∷ 5 ∷ 16 ∷ 6 ∷ [];
+    }
+    ∷ record {
+      computed = read ((drawing 2 1 p2) .other3) (4 ∷ 16 ∷ 5 ∷ 19 ∷ 6 ∷ 18 ∷ []);
+      stated = 16 ∷ 4 ∷ 19 ∷ 5 ∷ 18 ∷ 6 ∷ [];
+    }
+    -- P3
+    ∷ record { computed = darts 2 1 p3; stated = 14 ∷ 12 ∷ 8 ∷ 2 ∷ [] }
+    -- P4: the darts of level 3 after the join; point 0 has none before it
+    ∷ record { computed = ones 2 1 ((joined 2 1 (drawing 2 1 p2) 1 2) .next3); stated = 0 ∷ 1 ∷ [] }
+    ∷ record { computed = ones 2 1 ((drawing 2 1 p2) .next3); stated = 4 ∷ 5 ∷ 6 ∷ 16 ∷ 18 ∷ 19 ∷ [] }
+    -- P5
+    ∷ record { computed = darts 3 3 p5; stated = 48 ∷ 32 ∷ 16 ∷ 4 ∷ [] }
+    ∷ record { computed = read ((drawing 3 3 p5) .parent) (5 ∷ []); stated = 1 ∷ [] }
+    -- P6
+    ∷ record { computed = read ((drawing 3 3 p6) .parent) (1 ∷ 5 ∷ 9 ∷ []); stated = 0 ∷ 0 ∷ 0 ∷ [] }
+    -- P7: four regions, counts, the refused join
+    ∷ record { computed = names 2 2 p7; stated = 1 ∷ 2 ∷ 3 ∷ 4 ∷ [] }
+    ∷ record { computed = darts 2 2 p7; stated = 24 ∷ 24 ∷ 24 ∷ 16 ∷ [] }
+    ∷ record { computed = refusal 2 2 p7 1 4; stated = 9 ∷ [] }
+    -- P8: the parent of 5 before and after the join
+    ∷ record { computed = read ((drawing 3 3 p8) .parent) (5 ∷ []); stated = 0 ∷ [] }
+    ∷ record { computed = read ((joined 3 3 (drawing 3 3 p8) 1 2) .parent) (5 ∷ []); stated = 1 ∷ [] }
+    -- P9
+    ∷ record { computed = refusal 2 1 p2 0 0; stated = 6 ∷ [] }
+    ∷ record { computed = refusal 2 1 p2 3 3; stated = 7 ∷ [] }
+    ∷ record { computed = refusal 2 1 p2 1 3; stated = 8 ∷ [] }
+    ∷ []
+
+-- Cases beside the marked ones, against the habits of the old program.
+beside-claims : List Claim
+beside-claims =
+    -- A B A in a row, 1 joined with 2: the third region has the first one's label and is not drawn in
+    record { computed = (fresh 3 1 row 1 2) .parent; stated = mark ∷ 0 ∷ mark ∷ 0 ∷ [] }
+    ∷ record { computed = (joined 3 1 (drawing 3 1 row) 1 2) .parent; stated = mark ∷ 0 ∷ mark ∷ 0 ∷ [] }
+    -- the outside is a region of its own, also where cells bear its name for a label
+    ∷ record { computed = darts 1 1 (0 ∷ []); stated = 8 ∷ 8 ∷ 8 ∷ 2 ∷ [] }
+    ∷ record { computed = (drawing 1 1 (0 ∷ [])) .side1; stated = (drawing 1 1 p1) .side1 }
+    -- and a cell's label may be the mark
+    ∷ record { computed = (drawing 2 1 (65535 ∷ 65535 ∷ [])) .next3; stated = (drawing 2 1 p3) .next3 }
+    -- the judge accepts a drawing, also after joins, and refuses one in which a single entry differs
+    ∷ record { computed = accepted 3 3 (drawing 3 3 p5); stated = 1 ∷ [] }
+    ∷ record { computed = accepted 3 3 (joined 3 3 (drawing 3 3 p8) 1 2); stated = 1 ∷ [] }
+    ∷ record { computed = accepted 2 1 (drawing 2 2 p7); stated = 0 ∷ [] }
+    ∷ []
+
+-- opens every definition that the claims compute with
+opened : Unit {0}
+unfolding row accepted beside-claims darts picked ones read refusal p1 p2 p3 p5 p6 p7 p8 claims label west north names lower tie ties least table listed some count run widest within mark points slots dart point direction beside far turned reversal stays line bits half has corner right left parts present degree inline named cells turn side border mask next plain last along big bent tops anchor kept2 kept3 among level marked first parent parents above depth holes drawn drawing fresh recover recovered alike same judged at on between shared chase removed hanging prune pruned low high spliced smooth smooths smoothed moved close closes closed joined sized cleared outcome levelRefusal levelTables levelled five stated drawRefusal mapped used adjoin joinRefusal merged countRefusal deepened holed
+opened = tt
+
+marked-cases : map (λ (c : Claim). c .computed) claims ≡ map (λ (c : Claim). c .stated) claims
+unfolding opened
+marked-cases = refl
+
+cases-beside : map (λ (c : Claim). c .computed) beside-claims ≡ map (λ (c : Claim). c .stated) beside-claims
+unfolding opened
+cases-beside = refl

@@ -1,0 +1,5 @@
+mod Arm
+mod Back
+mod Entry
+mod Limit
+mod Mask

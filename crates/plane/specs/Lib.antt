@@ -1,0 +1,4 @@
+pub mod Size
+pub mod Dart
+pub mod Point
+pub mod Turn

@@ -1,0 +1,21 @@
+ghost use mathlib.Core.Path.{_≡_};
+ghost use Rattle.plane.specs.Size.{within};
+
+// The greatest width and the greatest height.
+pub const WIDEST: u16 = 72;
+
+// Whether a width and a height are both 1 to the greatest.
+pub fn within(width: u16, height: u16) -> bool
+    ensures { λ r. ⌜ r ≡ within width height ⌝ }
+{
+    if width < 1 {
+        return false;
+    }
+    if WIDEST < width {
+        return false;
+    }
+    if height < 1 {
+        return false;
+    }
+    height <= WIDEST
+}
