@@ -19,7 +19,8 @@ use Rattle.laws.specs.Run.{run}
 use Rattle.laws.proofs.Chart.{Map, Turns, Chart, Covers, Passes, Colours}
 use Rattle.laws.proofs.Chart.{times, last, level, taken, chase, less}
 use Rattle.laws.proofs.Orbit.{orbit-on, returns-by, returns, turns-after, turns-alike}
-use Rattle.laws.proofs.Walk.{Run, and-true, and-left, and-right, run-stop, run-is, run-found, run-end}
+use Rattle.laws.proofs.Test.{and-true, and-left, and-right}
+use Rattle.laws.proofs.Walk.{Run, run-stop, run-is, run-found, run-end}
 use Rattle.laws.proofs.Walk.{run-stops, run-fixes, run-agrees, run-shift, run-short, run-reaches}
 use Rattle.laws.proofs.Walk.{turns-within, first-return}
 use Rattle.laws.proofs.Level.{leads, unkept, last-is, last-run, last-on, last-kept, last-other}

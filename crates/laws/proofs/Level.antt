@@ -9,7 +9,8 @@ use mathlib.Core.Bool.{Bool, true, false, _&&_}
 use Prim.Native.Nat.{ℕ, suc, _<_}
 use native.Mathlib.Omega.{arith}
 use Rattle.laws.proofs.Chart.{Map, Turns, Chart, Covers, Passes, times, last, level}
-use Rattle.laws.proofs.Walk.{Run, here, more, step, and-true, and-left, and-right, run-is, run-end}
+use Rattle.laws.proofs.Test.{and-true, and-left, and-right}
+use Rattle.laws.proofs.Walk.{Run, here, more, step, run-is, run-end}
 use Rattle.laws.proofs.Walk.{run-stops, run-fixes, run-short, run-on, run-reaches, first-return}
 
 abbrev pub leads : Map → (ℕ → Bool) → ℕ → Bool

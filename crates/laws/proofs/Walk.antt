@@ -4,32 +4,19 @@
 --   Turns n on f       == f is one-to-one on the darts that are on, and stays among them; all are below n
 --   a first return     == d ↦ f (run f stop n d), where stop e says that f e passes a test
 use mathlib.Core.Path.{_≡_, refl, sym, _∙_, ap}
-use mathlib.Core.Bool.{Bool, true, false, _&&_, true≢false, and-eq-true-iff}
+use mathlib.Core.Bool.{Bool, true, false, _&&_}
 use Prim.Native.Nat.{ℕ, zero, suc, _<_, _≤_, zero-le, suc-le-suc, _+_, _-_}
-use native.Mathlib.Nat.{le-of-suc-le-suc}
+use native.Mathlib.Nat.{le-of-suc-le-suc, suc-add}
 use native.Mathlib.Decide.{decLe, decLt}
 use native.Mathlib.Omega.{arith}
 use Rattle.laws.specs.Run.{run}
+use Rattle.laws.proofs.Test.{clash, and-true, and-left, and-right}
 use Rattle.laws.proofs.Chart.{Turns, times}
 use Rattle.laws.proofs.Orbit.{times-suc, times-add, times-same, skip-round, orbit-on, times-once, returns}
 
 pub data Run (f : ℕ → ℕ) (stop : ℕ → Bool) : ℕ → ℕ → ℕ → Type 0 where
   here : {d : ℕ} → stop d ≡ true → Run f stop 0 d d
   more : {k d e : ℕ} → stop d ≡ false → Run f stop k (f d) e → Run f stop (suc k) d e
-
--- no test is both true and false
-pub clash {ℓ} : {A : Type ℓ} {b : Bool} → b ≡ true → b ≡ false → A
-clash p q = absurd (true≢false (sym p ∙ q))
-
--- a conjunction and its parts
-pub and-true : {a b : Bool} → a ≡ true → b ≡ true → (a && b) ≡ true
-and-true {a} {b} p q = and-eq-true-iff a b .1 (p, q)
-
-pub and-left : (a b : Bool) → (a && b) ≡ true → a ≡ true
-and-left a b h = and-eq-true-iff a b .0 h .0
-
-pub and-right : (a b : Bool) → (a && b) ≡ true → b ≡ true
-and-right a b h = and-eq-true-iff a b .0 h .1
 
 -- what passes the test ahead is led to
 found-step : (f : ℕ → ℕ) (stop : ℕ → Bool) (i d : ℕ) (b : Bool) → stop d ≡ b
@@ -54,6 +41,35 @@ module _ (f : ℕ → ℕ) (stop : ℕ → Bool) where
   pub run-go : (n d : ℕ) → stop d ≡ false → run f stop (suc n) d ≡ run f stop n (f d)
   unfolding run
   run-go n d h = rw (h, run)
+
+-- a run that has stopped goes no further
+module _ (f : ℕ → ℕ) (s : ℕ → Bool) where
+  run-more-at : (b : Bool) (c a d : ℕ) → s d ≡ b
+      → (s (run f s c (f d)) ≡ true → run f s (c + a) (f d) ≡ run f s c (f d))
+      → s (run f s (suc c) d) ≡ true → run f s (suc (c + a)) d ≡ run f s (suc c) d
+  run-more-at true c a d e r t = run-stop f s (suc (c + a)) d e ∙ sym (run-stop f s (suc c) d e)
+  run-more-at false c a d e r t = run-go f s (c + a) d e ∙ r (rw (run-go f s c d e) at t) ∙ sym (run-go f s c d e)
+
+  pub run-more : (c a d : ℕ) → s (run f s c d) ≡ true → run f s (c + a) d ≡ run f s c d
+  unfolding run
+  run-more zero a d t = run-stop f s (0 + a) d t
+  run-more (suc c) a d t = rw suc-add (run-more-at (s d) c a d refl (run-more c a (f d)) t)
+
+-- two runs in step end in step
+module _ (g : ℕ → ℕ) (f f′ : ℕ → ℕ) (s s′ : ℕ → Bool) (good : ℕ → Type 0)
+    (stops : (j : ℕ) → good j → s (g j) ≡ s′ j)
+    (steps : (j : ℕ) → good j → f (g j) ≡ g (f′ j))
+    (stays : (j : ℕ) → good j → good (f′ j)) where
+  along-at : (b : Bool) (c j : ℕ) → good j → s′ j ≡ b
+      → run f s c (g (f′ j)) ≡ g (run f′ s′ c (f′ j)) → run f s (suc c) (g j) ≡ g (run f′ s′ (suc c) j)
+  along-at true c j h e r = run-stop f s (suc c) (g j) (stops j h ∙ e) ∙ ap g (sym (run-stop f′ s′ (suc c) j e))
+  along-at false c j h e r =
+      run-go f s c (g j) (stops j h ∙ e) ∙ ap (run f s c) (steps j h) ∙ r ∙ ap g (sym (run-go f′ s′ c j e))
+
+  pub run-along : (c j : ℕ) → good j → run f s c (g j) ≡ g (run f′ s′ c j)
+  unfolding run
+  run-along zero j h = refl
+  run-along (suc c) j h = along-at (s′ j) c j h refl (run-along c (f′ j) (stays j h))
 
 module _ {f : ℕ → ℕ} {stop : ℕ → Bool} where
   -- run finds what a run leads to

@@ -8,7 +8,7 @@ use lib.Dec.{leb}
 use borrow.Author.Tests.{leb-true, le-leb, lt-ltb}
 use Rattle.plane.specs.Size.{within}
 use Rattle.plane.specs.Dart.{mark, dart, made, point, direction, beside, far, turned, reversal, stays, line, reversed}
-use Rattle.plane.proofs.Mask.{and-left, and-right}
+use Rattle.laws.proofs.Test.{and-left, and-right}
 use Rattle.plane.proofs.Limit.{Within, within-limits}
 
 -- the points of a sheet are few

@@ -1,5 +1,9 @@
 mod Arm
 mod Back
+pub mod Count
+pub mod Darts
 mod Entry
-mod Limit
+pub mod Limit
 mod Mask
+pub mod Points
+pub mod Turns

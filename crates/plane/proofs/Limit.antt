@@ -5,7 +5,7 @@ use Prim.Native.Nat.{ℕ, _≤_}
 use lib.Dec.{leb}
 use borrow.Author.Tests.{leb-true}
 use Rattle.plane.specs.Size.{widest, within}
-use Rattle.plane.proofs.Mask.{and-left, and-right}
+use Rattle.laws.proofs.Test.{and-left, and-right}
 
 pub record Within (w h : ℕ) : Type 0 where
   pub wide : 1 ≤ w

@@ -9,19 +9,12 @@ use native.Mathlib.Omega.{arith}
 use lib.Dec.{eqb}
 use borrow.Author.Tests.{eqb-true}
 use Rattle.laws.specs.Table.{number}
+use Rattle.laws.proofs.Test.{and-left, and-right}
 use Rattle.plane.specs.Dart.{turned}
 use Rattle.plane.specs.Point.{bits, half, has, parts, present, degree, inline}
 
 every : (Bool → Bool) → Bool
 every f = f true && f false
-
-pub and-left : (a b : Bool) → a && b ≡ true → a ≡ true
-and-left true b e = refl
-and-left false b e = e
-
-pub and-right : (a b : Bool) → a && b ≡ true → b ≡ true
-and-right true b e = e
-and-right false b e = cc
 
 every-at : (f : Bool → Bool) → every f ≡ true → (b : Bool) → f b ≡ true
 unfolding every
