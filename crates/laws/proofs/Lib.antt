@@ -8,6 +8,7 @@ pub mod Chart
 pub mod Level
 pub mod Less
 pub mod Over
+pub mod Alike
 pub mod Meet
 pub mod Link
 pub mod Splice

@@ -1,8 +1,23 @@
+pub mod Between
 pub mod Cells
+pub mod Closed
+pub mod Drawn
+pub mod Enclosure
 pub mod Fewer
+pub mod First
 pub mod Grid
+pub mod Held
+pub mod Joined
+pub mod Judge
+pub mod Kept
 mod Marked
+pub mod Marks
 pub mod Name
 pub mod Next
+pub mod Pair
 pub mod Piece
+pub mod Pruned
+pub mod Removed
 pub mod Sheet
+pub mod Smoothed
+pub mod Unique

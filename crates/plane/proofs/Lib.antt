@@ -6,4 +6,5 @@ mod Entry
 pub mod Limit
 mod Mask
 pub mod Points
+pub mod Reach
 pub mod Turns

@@ -14,12 +14,12 @@ use lib.Dec.{eqb, ltb, leb, lit<}
 use borrow.Author.Tests.{eqb-true, ltb-true, eq-eqb, ne-eqb, le-leb}
 use Rattle.laws.specs.Run.{run}
 use Rattle.plane.specs.Dart.{turned}
-use Rattle.plane.specs.Point.{bits, half, has, right, parts, present, degree}
+use Rattle.plane.specs.Point.{bits, half, has, right, parts, present, degree, inline}
 use Rattle.plane.specs.Turn.{turn, without}
 use Rattle.plane.proofs.Darts.{four, turned-below, turned-round}
 use Rattle.plane.proofs.Points.{bits-same, has-present, right-back}
 
-abbrev all : ℕ → (ℕ → Bool) → Bool
+abbrev pub all : ℕ → (ℕ → Bool) → Bool
 all zero f = true
 all (suc n) f = f n && all n f
 
@@ -30,16 +30,16 @@ all-step n f k h e r = go (ℕ-discrete k n)
     go (yes q) = rw q e
     go (no q) = r (omega arith)
 
-all-at : (n : ℕ) (f : ℕ → Bool) → all n f ≡ true → (k : ℕ) → k < n → f k ≡ true
+pub all-at : (n : ℕ) (f : ℕ → Bool) → all n f ≡ true → (k : ℕ) → k < n → f k ≡ true
 all-at zero f e k h = absurd (omega arith)
 all-at (suc n) f e k h =
     let both = and-eq-true-iff (f n) (all n f) .0 e in
     all-step n f k h (both .0) (all-at n f (both .1) k)
 
-abbrev each : ℕ → ℕ → (ℕ → ℕ → ℕ → Bool) → Bool
+abbrev pub each : ℕ → ℕ → (ℕ → ℕ → ℕ → Bool) → Bool
 each a b f = all 16 (λ m. all a (λ j. all b (f m j)))
 
-each-at : (a b : ℕ) (f : ℕ → ℕ → ℕ → Bool) → each a b f ≡ true
+pub each-at : (a b : ℕ) (f : ℕ → ℕ → ℕ → Bool) → each a b f ≡ true
     → (m : ℕ) → m < 16 → (j k : ℕ) → j < a → k < b → f m j k ≡ true
 each-at a b f e m l j k p q =
     all-at b (f m j) (all-at a (λ i. all b (f m i)) (all-at 16 (λ i. all a (λ j. all b (f i j))) e m l) j p) k q
@@ -63,6 +63,10 @@ pairs m j k = not (leb (degree m) 2 && has m j && has m k) || (eqb k j || eqb k 
 abbrev skips : ℕ → ℕ → ℕ → Bool
 skips m t k = not (eqb (without t m) 0 && not (eqb t 0)) || eqb (run (around m) (has t) 4 (turn m k)) (turn t k)
 
+-- of two lines in line with each other, the way in goes straight on
+abbrev straightens : ℕ → ℕ → ℕ → Bool
+straightens m i k = not (has m (turned k 2) && eqb (degree m) 2 && not (eqb (inline m) 0)) || eqb (turn m k) k
+
 all-find : each 1 4 finds ≡ true
 unfolding turn has half turned
 all-find = refl
@@ -78,6 +82,10 @@ all-pair = refl
 all-skip : each 16 4 skips ≡ true
 unfolding around turn without run bits has half turned
 all-skip = refl
+
+all-straighten : each 1 4 straightens ≡ true
+unfolding turn degree inline bits has half turned
+all-straighten = refl
 
 module _ (m : ℕ) (b : m < 16) where
   found : (k : ℕ) → k < 4 → (m ≡ 0 → ⊥) → (turn m k < 4) × (has m (turn m k) ≡ true)
@@ -106,6 +114,15 @@ module _ (m : ℕ) (b : m < 16) where
       go true e t = inl (eqb-true k j e)
       go false e t = inr (eqb-true k (around m j) t)
 
+  pub turn-straight : (k : ℕ) → k < 4 → has m (turned k 2) ≡ true → degree m ≡ 2 → (inline m ≡ 0 → ⊥) → turn m k ≡ k
+  turn-straight k l u v z =
+      eqb-true (turn m k) k
+      (rw (u, eq-eqb (degree m) 2 v, ne-eqb (inline m) 0 z) at (each-at 1 4 straightens all-straighten m b 0 k (lit< tt) l))
+
+  -- a mask that is not 0 has a line
+  pub some-has : (m ≡ 0 → ⊥) → (k : ℕ) × (k < 4) × (has m k ≡ true)
+  some-has z = (turn m 0, turn-below 0 (lit< tt) z, turn-has 0 (lit< tt) z)
+
   pub turn-skip : (t k : ℕ) → t < 16 → k < 4 → without t m ≡ 0 → (t ≡ 0 → ⊥)
       → run (around m) (has t) 4 (turn m k) ≡ turn t k
   turn-skip t k p q e z =
@@ -114,6 +131,11 @@ module _ (m : ℕ) (b : m < 16) where
 has-none : (j : ℕ) → j < 4 → has 0 j ≡ false
 unfolding has half
 has-none = four (λ j. has 0 j ≡ false) refl refl refl refl
+
+-- a mask with lines is not 0
+pub degree-some : (m : ℕ) → 0 < degree m → m ≡ 0 → ⊥
+unfolding degree has half
+degree-some m l e = let z : 0 < 0 = rw e at l in omega arith
 
 -- a mask that has a line is not 0
 pub has-some : (m j : ℕ) → j < 4 → has m j ≡ true → m ≡ 0 → ⊥
