@@ -114,22 +114,24 @@ module _ {w h : ℕ} {x : Map} (s : Plane w h x) (room : slots w h ≤ mark) (t 
           let (kp, bp) = two-level-kept s k p r in
           let a : Two x p (u (x .on) t l p) (v (x .on) t l p) = rw same (two-level s k p r) in
           let (d, o, m, bt) = close-top (s .chart) (s .few) y (c .loops) kp bp a in
-          let b = two-darts x (s .leaves) (getD t p 0) (small-degree s (getD t p 0) d o m bt) in
-          (instead k p (getD t p 0),
-          rw (close-loop (x .on) t l p q (two-ends (s .chart) (c .loops) kp bp a (s .few) (c .held .over)) (rw (mask-kept s k p kp) at r))
-          record {
-            held = moved-held k l p (u (x .on) t l p) (v (x .on) t l p) (e (x .on) t l p) (f (x .on) t l p) (c .held) (c .loops) kp bp a b;
-            loops = close-loops (s .chart) (s .few) y (c .loops) kp bp a b;
-            settled = close-settled (s .chart) (s .few) y (c .loops) kp bp a (c .settled);
-          })
-      go (no n) =
-          (k,
-          rw (close-skip (x .on) t l p n)
-          record {
-            held = c .held;
-            loops = c .loops;
-            settled = settled-more (c .settled) (λ d o r kp bp. absurd (n (rw same (small-two s k p d o r kp bp))));
-          })
+          let b = two-darts x (s .leaves) (getD t p 0) (small-degree s (getD t p 0) d o m bt) in (
+            instead k p (getD t p 0),
+            rw (close-loop (x .on) t l p q (two-ends (s .chart) (c .loops) kp bp a (s .few) (c .held .over)) (rw (mask-kept s k p kp) at r))
+                record {
+                  held = moved-held k l p (u (x .on) t l p) (v (x .on) t l p) (e (x .on) t l p) (f (x .on) t l p) (c .held) (c .loops) kp bp a b;
+                  loops = close-loops (s .chart) (s .few) y (c .loops) kp bp a b;
+                  settled = close-settled (s .chart) (s .few) y (c .loops) kp bp a (c .settled);
+                },
+          )
+      go (no n) = (
+        k,
+        rw (close-skip (x .on) t l p n)
+            record {
+              held = c .held;
+              loops = c .loops;
+              settled = settled-more (c .settled) (λ d o r kp bp. absurd (n (rw same (small-two s k p d o r kp bp))));
+            },
+      )
 
   pub close-all : (n p : ℕ) (k : ℕ → Bool) (l : Links) → Close w h x t k l p
       → (k′ : ℕ → Bool) × Close w h x t k′ (closes (x .on) t n p l) (p + n)

@@ -156,5 +156,5 @@ module _ {w h : ℕ} {x : Map} (s : Plane w h x) (k : ℕ → Bool) where
     unfolding level
     on-held = fun-ext (on-links (l .next) (held .over .nexts)
         (λ d e f.
-            let b = plane-below s (level x k .nx d) (next-on (s .chart) v d (level-was d e)) in
-            omega arith))
+        let b = plane-below s (level x k .nx d) (next-on (s .chart) v d (level-was d e)) in
+        omega arith))

@@ -65,25 +65,27 @@ big-more o q f p e =
     λ k. number-less (o (dart p k)) (q (dart p k)) (f (dart p k)) in
     let g = ltb-true 2 (degree (mask o p)) e in
     lt-ltb 2 (degree (mask q p))
-    (omega
-    (arith,
-    g,
-    degree-bits (λ k. o (dart p k)),
-    degree-bits (λ k. q (dart p k)),
-    c 0,
-    c 1,
-    c 2,
-    c 3))
+    (omega (
+      arith,
+      g,
+      degree-bits (λ k. o (dart p k)),
+      degree-bits (λ k. q (dart p k)),
+      c 0,
+      c 1,
+      c 2,
+      c 3,
+    ))
 
 -- the tables of level 3 are those whose links are held
 held-is : (w h : ℕ) (n : List ℕ) (l : Links) → Held w h (sheet w h n) (anchors w h n) l
     → (l .next ≡ drawn w h n .next3) × (l .other ≡ drawn w h n .other3)
 held-is w h n l c =
-    let g = drawn-held w h n in
-    (same-at (slots w h) (l .next) (drawn w h n .next3) (c .nexts) (g .nexts)
-    (λ d _. c .over .nexts d ∙ sym (g .over .nexts d)),
-    same-at (slots w h) (l .other) (drawn w h n .other3) (c .others) (g .others)
-    (λ d _. c .over .others d ∙ sym (g .over .others d)))
+    let g = drawn-held w h n in (
+      same-at (slots w h) (l .next) (drawn w h n .next3) (c .nexts) (g .nexts)
+          (λ d _. c .over .nexts d ∙ sym (g .over .nexts d)),
+      same-at (slots w h) (l .other) (drawn w h n .other3) (c .others) (g .others)
+          (λ d _. c .over .others d ∙ sym (g .over .others d)),
+    )
 
 module _ (w h : ℕ) (n : List ℕ) where
   -- a region's parent is found from the lines and their sides alone
@@ -220,7 +222,7 @@ module _ (w h a b : ℕ) (n : List ℕ) (room : slots w h ≤ mark) (apart : a �
   r3-pruned =
       pruned-none w h r3
       (λ p e. level-alone (sheet-plane w h n′) (anchors w h n) p
-          (rw (on-held (sheet-plane w h n′) (anchors w h n) room r3-covers r3-held) at e))
+      (rw (on-held (sheet-plane w h n′) (anchors w h n) room r3-covers r3-held) at e))
 
   -- Step 3.
   anchors-above : Above (big o′) (anchors w h n)
@@ -246,13 +248,14 @@ module _ (w h a b : ℕ) (n : List ℕ) (room : slots w h ≤ mark) (apart : a �
   unfolding s3 smoothed sheet lines-map
   closing =
       let (k, f) = smooth-all (sheet-plane w h n′) room (points w h) 0 (anchors w h n) r3 start in
-      let all : (d : ℕ) → o′ d ≡ true → point d < 0 + points w h = λ d e. rw (zero-add (points w h)) (near d e) in
-      (k,
-      record {
-        held = f .held;
-        loops = record { high = f .high; covers = f .covers; loopy = looped-all (f .looped) all };
-        settled = settled-start;
-      })
+      let all : (d : ℕ) → o′ d ≡ true → point d < 0 + points w h = λ d e. rw (zero-add (points w h)) (near d e) in (
+        k,
+        record {
+          held = f .held;
+          loops = record { high = f .high; covers = f .covers; loopy = looped-all (f .looped) all };
+          settled = settled-start;
+        },
+      )
 
   c3 : Links
   c3 = closed w h o′ s3
@@ -280,8 +283,8 @@ module _ (w h a b : ℕ) (n : List ℕ) (room : slots w h ≤ mark) (apart : a �
   s1-is =
       marked-agree w h o′ o′ (λ d. lower a b (at (drawn w h n .side1) d)) (side w h n′) (λ d. refl)
       (λ d e.
-          ap (lower a b) (drawn-side1 w h n d (fewer-lines w h n (lower a b) outside d e))
-          ∙ sym (fewer-side w h n (lower a b) outside d))
+      ap (lower a b) (drawn-side1 w h n d (fewer-lines w h n (lower a b) outside d e))
+      ∙ sym (fewer-side w h n (lower a b) outside d))
 
   -- All five steps.
   pub joined-drawn : ((d : ℕ) → side w h n′ d < mark) → joined w h (drawn w h n) a b ≡ drawn w h n′

@@ -18,6 +18,8 @@ pub mod Pair
 pub mod Piece
 pub mod Pruned
 pub mod Removed
+pub mod Share
 pub mod Sheet
 pub mod Smoothed
+pub mod Theorem
 pub mod Unique

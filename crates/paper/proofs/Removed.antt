@@ -112,9 +112,9 @@ module _ {w h : ℕ} {x : Map} {colour : ℕ → ℕ} {l : Links} {s : List ℕ}
         at-marked w h rest (λ e. chase l gone (at (l .next) e)) rest-below d
         ∙ links-agree mark rest-on
         (λ e t.
-            let o = rest-was e t in
-            ap (chase l gone) (next-at e o) ∙ chase-same (nx e) (c .turns .stays e o)
-            ∙ chase-four c u (lower a b) e o (rest-left e t))
+        let o = rest-was e t in
+        ap (chase l gone) (next-at e o) ∙ chase-same (nx e) (c .turns .stays e o)
+        ∙ chase-four c u (lower a b) e o (rest-left e t))
         d
 
     pub removed-other : (d : ℕ)

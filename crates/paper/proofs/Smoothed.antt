@@ -108,37 +108,40 @@ module _ {w h : ℕ} {x : Map} (s : Plane w h x) (room : slots w h ≤ mark) whe
       go (yes e) (no n) =
           let (kp, bp) = kept e in
           let t = pair e in
-          let ps = above-passes (s .chart) (s .few) (f .high) in
-          (without k p,
-          rw (smooth-out l p e n)
-          record {
-            held = spliced-held k l p (u l p) (v l p) (f .held) (f .covers) (f .high) kp t n;
-            high = above-without (f .high) bp;
-            covers = splice-covers (s .chart) (f .covers) ps (f .held .over) kp t n;
-            looped = looped-without (s .chart) (f .covers) (f .looped);
-          })
+          let ps = above-passes (s .chart) (s .few) (f .high) in (
+            without k p,
+            rw (smooth-out l p e n)
+                record {
+                  held = spliced-held k l p (u l p) (v l p) (f .held) (f .covers) (f .high) kp t n;
+                  high = above-without (f .high) bp;
+                  covers = splice-covers (s .chart) (f .covers) ps (f .held .over) kp t n;
+                  looped = looped-without (s .chart) (f .covers) (f .looped);
+                },
+          )
       go (yes e) (yes q) =
           let (kp, bp) = kept e in
           let t = pair e in
-          let ps = above-passes (s .chart) (s .few) (f .high) in
-          (k,
-          rw (smooth-loop l p q)
-          record {
-            held = f .held;
-            high = f .high;
-            covers = f .covers;
-            looped = looped-two (s .chart) (f .covers) ps (f .looped) kp t
-                (sym (over-other (f .held .over) (u l p) (t .one) (ap k (t .one-at) ∙ kp)) ∙ q);
-          })
-      go (no e) q =
-          (k,
-          rw (smooth-skip l p e)
-          record {
-            held = f .held;
-            high = f .high;
-            covers = f .covers;
-            looped = looped-more (f .looped) (λ d o r kp bp. absurd (e (rw same (small-two s k p d o r kp bp))));
-          })
+          let ps = above-passes (s .chart) (s .few) (f .high) in (
+            k,
+            rw (smooth-loop l p q)
+                record {
+                  held = f .held;
+                  high = f .high;
+                  covers = f .covers;
+                  looped = looped-two (s .chart) (f .covers) ps (f .looped) kp t
+                      (sym (over-other (f .held .over) (u l p) (t .one) (ap k (t .one-at) ∙ kp)) ∙ q);
+                },
+          )
+      go (no e) q = (
+        k,
+        rw (smooth-skip l p e)
+            record {
+              held = f .held;
+              high = f .high;
+              covers = f .covers;
+              looped = looped-more (f .looped) (λ d o r kp bp. absurd (e (rw same (small-two s k p d o r kp bp))));
+            },
+      )
 
   pub smooth-all : (n p : ℕ) (k : ℕ → Bool) (l : Links) → Smooth w h x k l p
       → (k′ : ℕ → Bool) × Smooth w h x k′ (smooths n p l) (p + n)
