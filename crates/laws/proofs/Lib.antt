@@ -3,6 +3,7 @@ pub mod Table
 pub mod Count
 pub mod Least
 pub mod Orbit
+pub mod Rise
 pub mod Walk
 pub mod Chart
 pub mod Level

@@ -13,6 +13,7 @@ use native.Mathlib.Decide.{ℕ-discrete}
 use native.Mathlib.Omega.{arith}
 use lib.ListN.{length, getD, List·getD-eq-default}
 use lib.Seq.{ext-getD}
+use Rattle.laws.proofs.Test.{or-either}
 use Rattle.laws.specs.Table.{listed, table, count, some}
 
 -- Lists of entries.
@@ -77,10 +78,6 @@ unfolding table
 map-table f n g = map-listed f g 0 n
 
 -- A test that passes at the last number or below.
-or-true-cases : (a b : Bool) → a || b ≡ true → (a ≡ true) ⊎ (b ≡ true)
-or-true-cases true b e = inl refl
-or-true-cases false b e = inr e
-
 or-false : (a b : Bool) → a || b ≡ false → (a ≡ false) × (b ≡ false)
 or-false true b e = absurd (true≢false e)
 or-false false b e = (refl, e)
@@ -98,7 +95,7 @@ module _ (f : ℕ → Bool) where
   pub some-found : (n : ℕ) → some n f ≡ true → (i : ℕ) × (i < n) × (f i ≡ true)
   unfolding some
   some-found zero e = absurd (false≢true e)
-  some-found (suc n) e = go (or-true-cases (f n) (some n f) e) (some-found n)
+  some-found (suc n) e = go (or-either (f n) (some n f) e) (some-found n)
     where
       go : (f n ≡ true) ⊎ (some n f ≡ true) → (some n f ≡ true → (i : ℕ) × (i < n) × (f i ≡ true))
           → (i : ℕ) × (i < suc n) × (f i ≡ true)

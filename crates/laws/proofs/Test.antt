@@ -1,6 +1,7 @@
--- Tests: a Bool is true or false, never both; a conjunction and its parts.
-use mathlib.Core.Path.{_≡_, sym, _∙_}
-use mathlib.Core.Bool.{Bool, true, false, _&&_, true≢false, and-eq-true-iff}
+-- Tests: a Bool is true or false, never both; a conjunction and a disjunction and their parts.
+use mathlib.Core.Path.{_≡_, refl, sym, _∙_}
+use mathlib.Core.Bool.{Bool, true, false, not, _&&_, _||_, true≢false, false≢true, and-eq-true-iff}
+use mathlib.Core.Logic.{_⊎_, inl, inr}
 
 -- no test is both true and false
 pub clash {ℓ} : {A : Type ℓ} {b : Bool} → b ≡ true → b ≡ false → A
@@ -15,3 +16,12 @@ and-left a b h = and-eq-true-iff a b .0 h .0
 
 pub and-right : (a b : Bool) → (a && b) ≡ true → b ≡ true
 and-right a b h = and-eq-true-iff a b .0 h .1
+
+pub or-either : (a b : Bool) → (a || b) ≡ true → (a ≡ true) ⊎ (b ≡ true)
+or-either true b e = inl refl
+or-either false b e = inr e
+
+-- an implication and its premise
+pub or-rest : (a b : Bool) → (not a || b) ≡ true → a ≡ true → b ≡ true
+or-rest true b e h = e
+or-rest false b e h = absurd (false≢true h)

@@ -1,12 +1,11 @@
 -- What the tables of a drawing hold, for any table n of names.
 --   links mark on f == f at the darts that are on, the mark elsewhere
 --   anchors w h n   == the points that level 3 keeps
-use mathlib.Core.Path.{_≡_, refl, sym, _∙_, ap, fun-ext}
+use mathlib.Core.Path.{_≡_, refl, _∙_, ap}
 use mathlib.Core.Bool.{Bool, true, false, cond, _&&_}
 use mathlib.Core.List.{List}
 use Prim.Native.Nat.{ℕ, _<_, _≤_}
 use lib.ListN.{length, getD}
-use Rattle.laws.specs.Run.{run}
 use Rattle.laws.specs.Table.{table}
 use Rattle.laws.proofs.Test.{and-left}
 use Rattle.laws.proofs.Table.{getD-table}
@@ -14,11 +13,11 @@ use Rattle.laws.proofs.Chart.{Map, Chart}
 use Rattle.laws.proofs.Chart as Chart
 use Rattle.laws.proofs.Over.{links, Over}
 use Rattle.plane.specs.Dart.{mark, slots, point, reversal}
-use Rattle.plane.proofs.Darts.{point-reversal}
 use Rattle.paper.specs.Level.{side, border, next, last, along, plain, level, kept3, among, marked}
 use Rattle.paper.specs.Drawing.{drawn}
 use Rattle.paper.specs.Joining.{Links, at}
 use Rattle.paper.proofs.Sheet.{lines-map, sheet, sheet-chart, sheet-few, border-alone, border-below}
+use Rattle.paper.proofs.Along.{last-last}
 use Rattle.paper.proofs.Marks.{length-marked, at-marked, at-held}
 use Rattle.paper.proofs.Removed.{Reads}
 use Rattle.paper.proofs.Held.{Plane, Held}
@@ -37,12 +36,6 @@ module _ (w h : ℕ) (n : List ℕ) where
         few = sheet-few w h n;
         alone = border-alone w h n;
       }
-
-  -- the run to the next kept point is that of the map
-  pub last-sheet : (keep : ℕ → Bool) (d : ℕ) → last w h (border w h n) keep d ≡ Chart.last (sheet w h n) keep d
-  unfolding last Chart.last sheet lines-map
-  last-sheet keep d =
-      ap (λ stop. run (next w (border w h n)) stop (slots w h) d) (fun-ext (λ e. ap keep (sym (point-reversal w e))))
 
   on3 : ℕ → Bool
   on3 d = border w h n d && anchors (point d)
@@ -72,10 +65,10 @@ module _ (w h : ℕ) (n : List ℕ) where
         over = record {
           nexts = λ d.
               at-marked w h on3 (λ e. next w o (last w h o anchors e)) on3-below d
-              ∙ ap (λ e. cond (on3 d) (next w o e) mark) (last-sheet anchors d);
+              ∙ ap (λ e. cond (on3 d) (next w o e) mark) (last-last w h n anchors d);
           others = λ d.
               at-marked w h on3 (λ e. reversal w (last w h o anchors e)) on3-below d
-              ∙ ap (λ e. cond (on3 d) (reversal w e) mark) (last-sheet anchors d);
+              ∙ ap (λ e. cond (on3 d) (reversal w e) mark) (last-last w h n anchors d);
         };
         nexts = length-marked w h on3 (λ e. next w o (last w h o anchors e));
         others = length-marked w h on3 (λ e. reversal w (last w h o anchors e));

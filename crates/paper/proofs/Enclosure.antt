@@ -7,31 +7,32 @@
 --   parents ..      == the table of parents, by name: the region round the piece at the name's cell, or the mark
 --   parentage w h n == that table, of the sheet with the names n
 use mathlib.Core.Path.{_≡_, refl, sym, ap, _∙_}
-use mathlib.Core.Bool.{Bool, true, false, cond, _&&_}
+use mathlib.Core.Bool.{Bool, true, false, cond}
 use mathlib.Core.List.{List}
 use mathlib.Core.Logic.{_⊎_, inl, inr, ⊎-elim, _≢_, _↔_}
-use Prim.Native.Nat.{ℕ, zero, suc, _+_, _*_, _-_, _/_, _%_, _<_, _≤_, zero-le}
+use Prim.Native.Nat.{ℕ, suc, _+_, _*_, _-_, _/_, _%_, _<_, _≤_, zero-le}
 use native.Mathlib.Nat.{suc-mul, mul-le-mul-right, div-lt-iff-lt-mul}
 use native.Mathlib.Decide.{ℕ-discrete}
 use native.Mathlib.Omega.{arith}
-use lib.Dec.{eqb, lit<}
+use lib.Dec.{lit<}
 use lib.ListN.{getD}
 use Rattle.laws.specs.Table.{number}
 use Rattle.laws.proofs.Table.{getD-table, getD-table-past}
-use Rattle.plane.specs.Dart.{mark, points, slots, dart, point, direction, reversal}
+use Rattle.plane.specs.Dart.{mark, points, slots, dart, point, reversal}
 use Rattle.plane.specs.Point.{bits, corner, right, left, degree}
 use Rattle.plane.proofs.Darts.{place, point-dart, direction-dart}
 use Rattle.plane.proofs.Points.{degree-bits, parts-false}
 use Rattle.paper.specs.Name.{names, named, cells}
 use Rattle.paper.specs.Level.{border, side, mask, tops}
 use Rattle.paper.specs.Enclosure.{first, parent, parents}
-use Rattle.paper.proofs.Name.{cell-below, name-range, name-le, name-own}
+use Rattle.paper.proofs.Name.{cell-below, name-range, name-own}
 use Rattle.paper.proofs.Next.{Lines}
 use Rattle.paper.proofs.Piece.{top-piece, tops-le, tops-tops, tops-west, tops-north}
 use Rattle.paper.proofs.Sheet.{across, side-reversal, border-alone, border-line, border-lines}
+use Rattle.paper.proofs.Marks.{cells-slots}
 use Rattle.paper.proofs.Kept.{top, mask-some, lines-inside, mask-point, piece-masks}
 use Rattle.paper.proofs.First.{every-cell, first-cell, named-cases, side-named, named-above, first-on}
-use Rattle.paper.proofs.First.{used, own-used, used-own}
+use Rattle.paper.proofs.First.{used, own-used, other-unused}
 
 pub record Head (w h : ℕ) (on : ℕ → Bool) (t : ℕ) : Type 0 where
   pub own : top w h on t ≡ t
@@ -167,11 +168,6 @@ pub record Used (w h : ℕ) (n : List ℕ) (r : ℕ) : Type 0 where
   pub below : cell < w * h
   pub own : getD n cell 0 ≡ suc cell
 
--- there are fewer cells than darts
-pub cells-slots : (w h : ℕ) → w * h < slots w h
-unfolding slots points
-cells-slots w h = omega arith
-
 module _ (w h : ℕ) (s : List ℕ) where
   abbrev n : List ℕ
   n = names w h s
@@ -206,11 +202,7 @@ module _ (w h : ℕ) (s : List ℕ) where
 
     pub parents-other : getD (names w h s) i 0 ≢ suc i
         → getD (parentage w h (names w h s)) (suc i) mark ≡ mark
-    parents-other e = parents-cell ∙ go (used w h s i) refl
-      where
-        go : (t : Bool) → used w h s i ≡ t → cond t (round w h n i) mark ≡ mark
-        go true u = absurd (e (used-own w h s i b u))
-        go false u = refl
+    parents-other e = parents-cell ∙ rw (other-unused w h s i b e)
 
     -- where the mark is no name, a name has a parent exactly where it is its cell's own
     pub parents-used : slots w h ≤ mark
@@ -227,12 +219,13 @@ module _ (w h : ℕ) (s : List ℕ) where
         below : getD n i 0 ≡ suc i → getD (parentage w h n) (suc i) mark ≤ w * h
         below e = rw (parents-own e) (side-below _)
 
-  -- the region round that of first cell i has a smaller name
+  -- round the region whose first cell is i lies one with a smaller name
   pub round-below : (i : ℕ) → i < w * h → getD (names w h s) i 0 ≡ suc i → round w h (names w h s) i < suc i
   unfolding round
   round-below = every-cell w h (λ i. getD n i 0 ≡ suc i → round w h n i < suc i) low
     where
-      low : (x y : ℕ) → x < w → y < h → getD n (y * w + x) 0 ≡ suc (y * w + x) → round w h n (y * w + x) < suc (y * w + x)
+      low : (x y : ℕ) → x < w → y < h → getD n (y * w + x) 0 ≡ suc (y * w + x)
+          → round w h n (y * w + x) < suc (y * w + x)
       low x y a b e =
           let i : ℕ = y * w + x in
           let p : ℕ = point (first w i) in
@@ -243,7 +236,7 @@ module _ (w h : ℕ) (s : List ℕ) where
           rw (round-named w h n p z)
           (omega (arith, named-above w h s (t % (w + 1)) (t / (w + 1)), mul-le-mul-right w r))
 
-  -- so has a parent, which is 0 or a name in use
+  -- so the parent has a smaller name, and it is 0 or a name in use
   module _ (i : ℕ) (b : i < w * h) (e : getD (names w h s) i 0 ≡ suc i) where
     pub parents-below : getD (parentage w h (names w h s)) (suc i) mark < suc i
     parents-below = rw (parents-own i b e) (round-below i b e)
@@ -254,5 +247,6 @@ module _ (w h : ℕ) (s : List ℕ) where
     parents-named = rw (parents-own i b e) (side-used _)
 
   -- a name in use has a parent
-  pub used-parent : slots w h ≤ mark → (r : ℕ) → Used w h (names w h s) r → getD (parentage w h (names w h s)) r mark ≢ mark
+  pub used-parent : slots w h ≤ mark → (r : ℕ) → Used w h (names w h s) r
+      → getD (parentage w h (names w h s)) r mark ≢ mark
   used-parent m r u = rw (u .bears) (parents-used (u .cell) (u .below) m .1 (u .own))

@@ -1,9 +1,12 @@
 -- The cells by column and row, and the darts along their top sides.
 --   named w h n x y == the name of the cell north-west of the place in column x and row y; 0 off the sheet
 --   first w i       == the dart that runs east along the top side of cell i
+--   every-cell      == a law of the cells by column and row is a law of every cell
+--   used w h s i    == the name suc i is in use: the top side of cell i is a line, and bears that name
 use mathlib.Core.Path.{_≡_, refl, sym, ap, _∙_}
 use mathlib.Core.Bool.{Bool, true, false, cond, _&&_}
 use mathlib.Core.List.{List}
+use mathlib.Core.Logic.{_≢_}
 use Prim.Native.Nat.{ℕ, zero, suc, _+_, _*_, _/_, _%_, _<_, _≤_, zero-le}
 use native.Mathlib.Nat.{zero-mul, suc-mul, add-zero, mul-comm, mod-lt, div-add-mod', div-lt-iff-lt-mul, div-eq-of-lt}
 use native.Mathlib.Nat.{mul-add-div-right}
@@ -18,7 +21,7 @@ use Rattle.plane.proofs.Darts.{four, place, direction-below}
 use Rattle.paper.specs.Name.{names, named, cells}
 use Rattle.paper.specs.Level.{border, side}
 use Rattle.paper.specs.Enclosure.{first}
-use Rattle.paper.proofs.Name.{cell-below, name-range, name-le, name-own}
+use Rattle.paper.proofs.Name.{cell-below, name-range}
 use Rattle.paper.proofs.Sheet.{side-east, across-east, differs-border}
 
 module _ (w h : ℕ) where
@@ -94,13 +97,16 @@ module _ (w h : ℕ) (s : List ℕ) where
       let u = sym (side-east w h n x y l ∙ named-cell w h n x y a b ∙ e) ∙ q ∙ across-east w h n x y l in
       omega (arith, named-above (suc x) y))))
 
-  -- a name is in use exactly where it is borne by its own cell
   abbrev pub used : ℕ → Bool
   used i = border w h (names w h s) (first w i) && eqb (side w h (names w h s) (first w i)) (suc i)
 
+  -- a name is in use exactly where it is its cell's own
   module _ (i : ℕ) (b : i < w * h) where
+    pub first-own : getD (names w h s) i 0 ≡ suc i → side w h (names w h s) (first w i) ≡ suc i
+    first-own e = first-side w h (names w h s) i b ∙ e
+
     pub own-used : getD (names w h s) i 0 ≡ suc i → used i ≡ true
-    own-used e = and-true (first-on i b e) (eq-eqb _ _ (first-side w h (names w h s) i b ∙ e))
+    own-used e = and-true (first-on i b e) (eq-eqb _ _ (first-own e))
 
     pub used-own : used i ≡ true → getD (names w h s) i 0 ≡ suc i
     used-own e =
@@ -108,3 +114,10 @@ module _ (w h : ℕ) (s : List ℕ) where
         sym (first-side w h n i b)
         ∙ eqb-true (side w h n (first w i)) (suc i)
         (and-right (border w h n (first w i)) (eqb (side w h n (first w i)) (suc i)) e)
+
+    pub other-unused : getD (names w h s) i 0 ≢ suc i → used i ≡ false
+    other-unused f = go (used i) refl
+      where
+        go : (t : Bool) → used i ≡ t → used i ≡ false
+        go true u = absurd (f (used-own u))
+        go false u = u

@@ -13,39 +13,27 @@ use native.Mathlib.Omega.{arith}
 use lib.Dec.{ltb}
 use lib.ListN.{getD}
 use borrow.Author.Tests.{lt-ltb, ltb-true}
-use Rattle.laws.specs.Table.{listed, table}
+use Rattle.laws.specs.Table.{table}
+use Rattle.laws.proofs.Table.{getD-table}
 use Rattle.laws.proofs.Chart.{Map, Chart, Few, Colours, less}
 use Rattle.plane.specs.Dart.{dart, point, direction, line}
 use Rattle.plane.specs.Point.{right, parts}
 use Rattle.paper.specs.Name.{named, cells}
 use Rattle.plane.proofs.Darts.{place, every-line, reversal-east, reversal-south}
+use Rattle.paper.proofs.Name.{cell-below}
 use Rattle.paper.proofs.Cells.{named-west, named-north, named-east, named-south, named-map}
 use Rattle.paper.specs.Level.{side, border, next, big}
 use Rattle.paper.proofs.Sheet.{side-east, side-south, across-east, across-south, differs-border, border-line}
 use Rattle.paper.proofs.Sheet.{border-back, lines-map, sheet, sheet-chart, sheet-colours, sheet-few}
 use Rattle.paper.proofs.Fewer.{fewer-side, fewer-border, fewer-next}
 
-listed-at : (f : ℕ → ℕ) (i n j : ℕ) → j < n → getD (listed f i n) j 0 ≡ f (i + j)
-unfolding listed
-listed-at f i zero j l = absurd (omega arith)
-listed-at f i (suc n) zero l = ap f (let e : i ≡ i + 0 = omega arith in e)
-listed-at f i (suc n) (suc j) l =
-    listed-at f (suc i) n j (omega arith) ∙ ap f (let e : suc i + j ≡ i + suc j = omega arith in e)
-
-pub table-at : (f : ℕ → ℕ) (n j : ℕ) → j < n → getD (table n f) j 0 ≡ f j
-unfolding table
-table-at f n j l = listed-at f 0 n j l ∙ ap f (zero-add j)
-
 abbrev pub own : ℕ → ℕ → List ℕ
 own w h = table (w * h) suc
-
-cell-below : (w h x y : ℕ) → x < w → y < h → y * w + x < w * h
-cell-below w h x y a b = rw (mul-comm w h) (omega (arith, mul-le-mul-right w b, suc-mul y w))
 
 module _ (w h : ℕ) where
   pub named-own : (x y : ℕ) → x < w → y < h → named w h (own w h) (suc x) (suc y) ≡ suc (y * w + x)
   unfolding named
-  named-own x y a b = rw (lt-ltb x w a, lt-ltb y h b) (table-at suc (w * h) (y * w + x) (cell-below w h x y a b))
+  named-own x y a b = rw (lt-ltb x w a, lt-ltb y h b) (getD-table (w * h) suc (y * w + x) 0 (cell-below w h x y a b))
 
   -- cells above one another differ, and the outermost differ from the outside
   rows-differ : 1 ≤ h → (x y : ℕ) → x < w → y ≤ h → named w h (own w h) (suc x) (suc y) ≡ named w h (own w h) (suc x) y → ⊥
@@ -135,7 +123,7 @@ module _ (w h : ℕ) (n : List ℕ) where
       → called n (cond (a && b) (getD (own w h) (y * w + x) 0) 0) ≡ cond (a && b) (getD n (y * w + x) 0) 0
   unfolding called
   called-cond x y true true p q =
-      rw (table-at suc (w * h) (y * w + x) (cell-below w h x y (ltb-true x w p) (ltb-true y h q)))
+      rw (getD-table (w * h) suc (y * w + x) 0 (cell-below w h x y (ltb-true x w p) (ltb-true y h q)))
   called-cond x y true false p q = refl
   called-cond x y false b p q = refl
 

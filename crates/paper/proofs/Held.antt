@@ -20,7 +20,8 @@ use Rattle.laws.proofs.Link.{next-on}
 use Rattle.plane.specs.Dart.{mark, slots, dart, point, direction}
 use Rattle.plane.specs.Point.{bits, half, has, degree}
 use Rattle.plane.proofs.Darts.{point-dart, dart-own, direction-below}
-use Rattle.plane.proofs.Points.{bits-same, degree-some}
+use Rattle.plane.proofs.Points.{bits-same}
+use Rattle.plane.proofs.Turns.{has-degree}
 use Rattle.paper.specs.Level.{mask, big}
 use Rattle.paper.specs.Joining.{Links, at, on, low, high}
 use Rattle.paper.proofs.Removed.{on-links}
@@ -84,7 +85,7 @@ small-degree {x = x} s p d o q b =
     let here : x .on (dart p (direction d)) ≡ true = ap (λ r. x .on (dart r (direction d))) r ∙ ap (x .on) (dart-own d) ∙ o in
     let b′ = direction-below d in
     let most : degree m ≤ 2 = ltb-false 2 (degree m) b in
-    let least : 1 ≤ degree m = degree-some m (direction d) b′ (has-mask (x .on) p (direction d) b′ ∙ here) in
+    let least : 1 ≤ degree m = has-degree m (direction d) b′ (has-mask (x .on) p (direction d) b′ ∙ here) in
     two-of (degree m) least most (s .alone p)
   where
     two-of : (g : ℕ) → 1 ≤ g → g ≤ 2 → g ≢ 1 → g ≡ 2

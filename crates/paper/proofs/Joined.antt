@@ -49,7 +49,7 @@ use Rattle.paper.proofs.Pruned.{pruned-none}
 use Rattle.paper.proofs.Held.{Plane, Held, on-held, level-alone}
 use Rattle.paper.proofs.Smoothed.{Smooth, smooth-all}
 use Rattle.paper.proofs.Closed.{Close, close-all}
-use Rattle.paper.proofs.Kept.{top, mask-some, dart-point, kept3-above, sheet-tops, sheet-anchored, sheet-loops}
+use Rattle.paper.proofs.Kept.{top, mask-some, dart-point, sheet-tops, sheet-anchored, sheet-loops}
 use Rattle.paper.proofs.Enclosure.{head-top, head-east}
 use Rattle.paper.proofs.Drawn.{anchors, sheet-plane, drawn-next1, drawn-side1, drawn-links, drawn-held, drawn-reads, level-reads, length-next1}
 
@@ -229,7 +229,7 @@ module _ (w h a b : ℕ) (n : List ℕ) (room : slots w h ≤ mark) (apart : a �
   anchors-above =
       record {
         above = λ p e.
-            kept3-above w h (border w h n) (border-lines w h n) .above p
+            sheet-anchored w h n .high .above p
             (big-more o′ (border w h n) (fewer-lines w h n (lower a b) outside) p e);
       }
 

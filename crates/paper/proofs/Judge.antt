@@ -26,26 +26,9 @@ use Rattle.paper.specs.Drawing.{Tables, Drawn, drawn, drawing, recover, 
 use Rattle.paper.specs.Joining.{at}
 use Rattle.paper.proofs.Cells.{named-west}
 use Rattle.paper.proofs.Name.{cell-below, length-names, name-range, names-names}
+use Rattle.paper.proofs.First.{every-cell, named-cell}
 use Rattle.paper.proofs.Sheet.{across, side-north, across-north, border-below, border-agrees}
 use Rattle.paper.proofs.Marks.{at-held, at-free, names-side-small}
-
-cell-wide : (w h i : ℕ) → i < w * h → 0 < w
-cell-wide zero h i b = absurd (omega (arith, rw zero-mul at b))
-cell-wide (suc w) h i b = omega arith
-
--- a law of the cells by column and row is a law of every cell
-pub every-cell : (w h : ℕ) (P : ℕ → Type 0)
-    → ((x y : ℕ) → x < w → y < h → P (y * w + x)) → (i : ℕ) → i < w * h → P i
-every-cell w h P f i b =
-    let z = cell-wide w h i b in
-    let y = div-lt-iff-lt-mul z .1 (rw (mul-comm w h) at b) in
-    subst P (div-add-mod' i w) (f (i % w) (i / w) (mod-lt i z) y)
-
--- the name of a cell by its place
-pub named-cell : (w h : ℕ) (n : List ℕ) (x y : ℕ) → x < w → y < h
-    → named w h n (suc x) (suc y) ≡ getD n (y * w + x) 0
-unfolding named
-named-cell w h n x y a b = rw (lt-ltb x w a, lt-ltb y h b)
 
 hung : ℕ → ℕ → ℕ
 hung w i = dart (i + i / w + (w + 1)) 3

@@ -3,6 +3,7 @@
 --   Inside w h on   == a line that is on stays in the sheet
 --   Piece w h on p q == a chain of lines that are on leads from p to q
 --   top w h on p    == the least point of the piece of p, from the table tops
+--   keeping w h on f == the table of the big points and of those that pass the test f
 --   kept3 w h on    == the table of the points that are kept at level 3: the big points, and the anchors
 --   Tops m top      == top is the same at both ends of a line, and joined with each point that has a dart
 --   Anchored .. k   == k keeps the big points, and each point that stands for itself and for no big point
@@ -10,23 +11,23 @@
 use mathlib.Core.Path.{_≡_, refl, sym, ap, _∙_}
 use mathlib.Core.Bool.{Bool, true, false, not, _&&_, _||_, or-true}
 use mathlib.Core.List.{List}
-use mathlib.Core.Logic.{_⊎_, inl, inr, _≢_}
-use Prim.Native.Nat.{ℕ, _+_, _-_, _<_, _≤_}
+use mathlib.Core.Logic.{_≢_}
+use Prim.Native.Nat.{ℕ, _+_, _<_, _≤_}
 use native.Mathlib.Omega.{arith}
 use lib.Dec.{eqb, lit<}
 use lib.ListN.{getD}
 use borrow.Author.Tests.{eqb-true, eq-eqb, ne-eqb, ltb-true, not-true}
-use Rattle.laws.specs.Table.{some}
-use Rattle.laws.proofs.Test.{clash, and-true, and-left, and-right}
+use Rattle.laws.specs.Table.{table, some}
+use Rattle.laws.proofs.Test.{clash, and-left, and-right}
 use Rattle.laws.proofs.Table.{getD-table, some-none, none-some}
 use Rattle.laws.proofs.Least.{step, stay, back, then, linked-iff}
-use Rattle.laws.proofs.Chart.{Map}
 use Rattle.laws.proofs.Curve.{Joined, Tops}
 use Rattle.laws.proofs.Loop.{Above, Loops}
 use Rattle.laws.proofs.Anchor.{Anchored, anchored-loops}
-use Rattle.plane.specs.Dart.{points, dart, point, direction, beside, far, turned, reversal, line}
-use Rattle.plane.specs.Point.{has, degree}
-use Rattle.plane.proofs.Darts.{four, point-dart, dart-own, direction-below, turned-below, point-reversal, reversal-dart, far-dart}
+use Rattle.plane.specs.Dart.{points, dart, point, direction, beside, far, turned, reversal}
+use Rattle.plane.specs.Point.{degree}
+use Rattle.plane.proofs.Darts.{four, point-dart, dart-own, direction-below, turned-below}
+use Rattle.plane.proofs.Darts.{point-reversal, reversal-dart, far-dart}
 use Rattle.plane.proofs.Reach.{line-point, line-far, line-west-in, line-north-in}
 use Rattle.plane.proofs.Turns.{some-has, has-some, degree-some}
 use Rattle.paper.specs.Level.{border, side, mask, big, tops, anchor, kept3, among}
@@ -128,7 +129,7 @@ module _ (w h : ℕ) (on : ℕ → Bool) (l : Lines w h on) where
         let j : Joined (lines-map w h on side) (point d) (point (reversal w d)) = Joined.line d e in
         Joined.back (rw (point-dart q k b, point-reversal w d, far-dart w q k b, f) at j)
 
-    piece-joined : {p q : ℕ} → Piece w h on p q → Joined (lines-map w h on side) p q
+    pub piece-joined : {p q : ℕ} → Piece w h on p q → Joined (lines-map w h on side) p q
     piece-joined stay = Joined.alone
     piece-joined (step {i = p} {j = q} r) = line-joined p q r
     piece-joined (back r) = Joined.back (piece-joined r)
@@ -179,46 +180,56 @@ module _ (w h : ℕ) (on : ℕ → Bool) (t : List ℕ) (p : ℕ) where
       (ap not (none-some for-big (points w h)
       (λ q b. and-not (eqb (getD t q 0) p) (big on q) (λ g. f q b (eqb-true (getD t q 0) p g)))))
 
-module _ (w h : ℕ) (on : ℕ → Bool) where
-  kept3-at : (p : ℕ) → p < points w h → among (kept3 w h on) p ≡ (big on p || anchor w h on (tops w h on) p)
-  unfolding among kept3
-  kept3-at p b = getD-table (points w h) (λ p. big on p || anchor w h on (tops w h on) p) p false b
+abbrev pub keeping : ℕ → ℕ → (ℕ → Bool) → (ℕ → Bool) → List Bool
+keeping w h on f = table (points w h) (λ p. big on p || f p)
 
-  -- a kept point that is not big is an anchor
-  kept3-anchor : (p : ℕ) → p < points w h → among (kept3 w h on) p ≡ true → big on p ≡ false
-      → anchor w h on (tops w h on) p ≡ true
-  kept3-anchor p b e f = rw (kept3-at p b, f) at e
+or-none : (a b : Bool) → (a || b) ≡ false → (a ≡ false) × (b ≡ false)
+or-none true b e = clash refl e
+or-none false b e = (refl, e)
 
-  anchor-kept3 : (p : ℕ) → p < points w h → anchor w h on (tops w h on) p ≡ true → among (kept3 w h on) p ≡ true
-  anchor-kept3 p b e = rw (kept3-at p b, e) (or-true (big on p))
+module _ (w h : ℕ) (on f : ℕ → Bool) where
+  keeping-at : (p : ℕ) → p < points w h → among (keeping w h on f) p ≡ (big on p || f p)
+  unfolding among
+  keeping-at p b = getD-table (points w h) (λ p. big on p || f p) p false b
 
-  module _ (l : Lines w h on) where
-    pub kept3-above : Above (big on) (among (kept3 w h on))
-    kept3-above = record { above = λ p e. rw (kept3-at p (mask-point w h on l p (big-some on p e)), e) }
+  -- a kept point is big or passes the test, one that is not kept neither
+  pub keeping-small : (p : ℕ) → p < points w h → among (keeping w h on f) p ≡ true → big on p ≡ false → f p ≡ true
+  keeping-small p b e g = rw (keeping-at p b, g) at e
 
-    pub lines-anchored : (side : ℕ → ℕ) → Anchored (lines-map w h on side) (big on) (top w h on) (among (kept3 w h on))
-    unfolding lines-map
-    lines-anchored side =
-        let at : (d : ℕ) → on d ≡ true → point d < points w h = dart-point w h on l in
-        record {
-          high = kept3-above;
-          own = λ d e k f. anchor-own w h on (tops w h on) (point d) (kept3-anchor (point d) (at d e) k f);
-          free = λ d e i j k f.
-              anchor-free w h on (tops w h on) (point d) (kept3-anchor (point d) (at d i) k f) (point e) (at e j);
-          kept = λ d e q f.
-              anchor-kept3 (point d) (at d e)
-              (anchor-is w h on (tops w h on) (point d) (mask-some on d (point d) e refl) q (λ p b g. free-at p d g f));
-        }
-      where
-        free-at : (p d : ℕ) → top w h on p ≡ point d
-            → ((e : ℕ) → on e ≡ true → top w h on (point e) ≡ point d → big on (point e) ≡ false) → big on p ≡ false
-        free-at p d g f = go (big on p) refl
-          where
-            go : (b : Bool) → big on p ≡ b → big on p ≡ false
-            go true b =
-                let (e, i, q) = some-mask on p (big-some on p b) in
-                rw q at (f e i (rw q g))
-            go false b = b
+  pub keeping-test : (p : ℕ) → p < points w h → f p ≡ true → among (keeping w h on f) p ≡ true
+  keeping-test p b e = rw (keeping-at p b, e) (or-true (big on p))
+
+  pub keeping-none : (p : ℕ) → p < points w h → among (keeping w h on f) p ≡ false → (big on p ≡ false) × (f p ≡ false)
+  keeping-none p b e = or-none (big on p) (f p) (rw (keeping-at p b) at e)
+
+  pub keeping-above : Lines w h on → Above (big on) (among (keeping w h on f))
+  keeping-above l = record { above = λ p e. rw (keeping-at p (mask-point w h on l p (big-some on p e)), e) }
+
+module _ (w h : ℕ) (on : ℕ → Bool) (l : Lines w h on) where
+  pub lines-anchored : (side : ℕ → ℕ) → Anchored (lines-map w h on side) (big on) (top w h on) (among (kept3 w h on))
+  unfolding lines-map kept3
+  lines-anchored side =
+      let f : ℕ → Bool = anchor w h on (tops w h on) in
+      let at : (d : ℕ) → on d ≡ true → point d < points w h = dart-point w h on l in
+      record {
+        high = keeping-above w h on f l;
+        own = λ d e k g. anchor-own w h on (tops w h on) (point d) (keeping-small w h on f (point d) (at d e) k g);
+        free = λ d e i j k g.
+            anchor-free w h on (tops w h on) (point d) (keeping-small w h on f (point d) (at d i) k g) (point e) (at e j);
+        kept = λ d e q g.
+            keeping-test w h on f (point d) (at d e)
+            (anchor-is w h on (tops w h on) (point d) (mask-some on d (point d) e refl) q (λ p b r. free-at p d r g));
+      }
+    where
+      free-at : (p d : ℕ) → top w h on p ≡ point d
+          → ((e : ℕ) → on e ≡ true → top w h on (point e) ≡ point d → big on (point e) ≡ false) → big on p ≡ false
+      free-at p d g f = go (big on p) refl
+        where
+          go : (b : Bool) → big on p ≡ b → big on p ≡ false
+          go true b =
+              let (e, i, q) = some-mask on p (big-some on p b) in
+              rw q at (f e i (rw q g))
+          go false b = b
 
 -- The sheet.
 module _ (w h : ℕ) (n : List ℕ) where
@@ -232,7 +243,8 @@ module _ (w h : ℕ) (n : List ℕ) where
   unfolding sheet
   sheet-tops = lines-tops w h on (border-lines w h n) (side w h n)
 
-  pub sheet-anchored : Anchored (sheet w h n) (big (border w h n)) (top w h (border w h n)) (among (kept3 w h (border w h n)))
+  pub sheet-anchored :
+      Anchored (sheet w h n) (big (border w h n)) (top w h (border w h n)) (among (kept3 w h (border w h n)))
   unfolding sheet
   sheet-anchored = lines-anchored w h on (border-lines w h n) (side w h n)
 

@@ -1,6 +1,8 @@
+pub mod Along
 pub mod Between
 pub mod Cells
 pub mod Closed
+pub mod Curve
 pub mod Drawn
 pub mod Enclosure
 pub mod Fewer
@@ -21,5 +23,6 @@ pub mod Removed
 pub mod Share
 pub mod Sheet
 pub mod Smoothed
+pub mod Straight
 pub mod Theorem
 pub mod Unique

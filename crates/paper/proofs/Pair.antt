@@ -2,12 +2,12 @@
 --   low m, high m   == the first and the last direction of a mask
 --   Pair m          == the mask has two directions, low m and high m
 use mathlib.Core.Path.{_≡_, refl, sym, _∙_, ap}
-use mathlib.Core.Bool.{Bool, true, false, not, _&&_, _||_, false≢true}
-use mathlib.Core.Logic.{_≢_, _⊎_, inl, inr, ⊎-map}
+use mathlib.Core.Bool.{Bool, true, false, not, _&&_, _||_}
+use mathlib.Core.Logic.{_≢_, _⊎_, ⊎-map}
 use Prim.Native.Nat.{ℕ, _<_}
 use lib.Dec.{eqb, ltb, lit<}
 use borrow.Author.Tests.{eqb-true, eqb-false, ltb-true, eq-eqb, not-true}
-use Rattle.laws.proofs.Test.{and-left, and-right}
+use Rattle.laws.proofs.Test.{and-left, and-right, or-either, or-rest}
 use Rattle.laws.proofs.Chart.{Map}
 use Rattle.laws.proofs.Meet.{Two}
 use Rattle.plane.specs.Dart.{dart, point, direction}
@@ -35,14 +35,6 @@ paired m j k = not (eqb (degree m) 2) || both m && (not (has m k) || (eqb k (low
 all-paired : each 1 4 paired ≡ true
 unfolding low high has half degree
 all-paired = refl
-
-or-either : (a b : Bool) → (a || b) ≡ true → (a ≡ true) ⊎ (b ≡ true)
-or-either true b e = inl refl
-or-either false b e = inr e
-
-or-rest : (a b : Bool) → (not a || b) ≡ true → a ≡ true → b ≡ true
-or-rest true b e h = e
-or-rest false b e h = absurd (false≢true h)
 
 module _ (m : ℕ) (l : m < 16) (d : degree m ≡ 2) where
   at-line : (k : ℕ) → k < 4 → (both m && (not (has m k) || (eqb k (low m) || eqb k (high m)))) ≡ true

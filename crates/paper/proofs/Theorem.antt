@@ -12,7 +12,7 @@ use lib.ListN.{length, getD, length-map}
 use borrow.Author.Tests.{eqb-true, eqb-false, not-true}
 use Rattle.laws.specs.Least.{lower}
 use Rattle.laws.specs.Table.{some}
-use Rattle.laws.proofs.Test.{and-left, and-right, clash}
+use Rattle.laws.proofs.Test.{and-left, and-right, or-either}
 use Rattle.laws.proofs.Table.{some-found}
 use Rattle.laws.proofs.Least.{lower-le}
 use Rattle.plane.specs.Dart.{mark, slots, reversal}
@@ -35,10 +35,6 @@ pub record Joinable (w h : ℕ) (t : Tables) (a b : ℕ) : Type 0 where
   pub apart : a ≢ b
   pub regions : (used t a ≡ true) × (used t b ≡ true)
   pub neighbours : adjoin w h t a b ≡ true
-
-or-either : (a b : Bool) → (a || b) ≡ true → (a ≡ true) ⊎ (b ≡ true)
-or-either true b e = inl refl
-or-either false b e = inr e
 
 between-either : (a b x y : ℕ) → between a b x y ≡ true → ((x ≡ a) × (y ≡ b)) ⊎ ((x ≡ b) × (y ≡ a))
 unfolding between

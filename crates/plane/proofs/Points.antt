@@ -48,14 +48,6 @@ unfolding degree
 degree-below m =
     omega (arith, number-below (has m 0), number-below (has m 1), number-below (has m 2), number-below (has m 3))
 
--- a mask that has a line has degree 1 or more
-pub degree-some : (m k : ℕ) → k < 4 → has m k ≡ true → 1 ≤ degree m
-unfolding degree
-degree-some m =
-    four (λ k. has m k ≡ true → 1 ≤ degree m)
-    (λ e. omega (arith, ap number e)) (λ e. omega (arith, ap number e)) (λ e. omega (arith, ap number e))
-    (λ e. omega (arith, ap number e))
-
 -- the left hand of a direction is the right hand of the direction before it
 pub left-right : (c : List (List ℕ)) (k : ℕ) → k < 4 → left c k ≡ right c (turned k 3)
 unfolding left right turned

@@ -2,14 +2,15 @@
 --   line w h d      == the dart's line lies on the sheet
 --   far w d         == the point that the dart leads to
 use mathlib.Core.Path.{_≡_}
-use mathlib.Core.Bool.{true, _&&_, and-eq-true-iff}
-use Prim.Native.Nat.{ℕ, _+_, _*_, _/_, _%_, _<_, _≤_}
+use mathlib.Core.Bool.{true, and-eq-true-iff}
+use Prim.Native.Nat.{ℕ, zero, suc, _+_, _/_, _%_, _<_, _≤_}
 use native.Mathlib.Nat.{mod-le, mul-le-mul-right, div-add-mod'}
 use native.Mathlib.Omega.{arith}
-use lib.Dec.{leb, ltb, lit<}
+use lib.Dec.{leb, lit<}
 use borrow.Author.Tests.{ltb-true}
-use Rattle.plane.specs.Dart.{dart, point, far, reversal, stays, line, points, slots}
-use Rattle.plane.proofs.Darts.{point-dart, direction-dart, point-reversal, line-reversal, line-below}
+use Rattle.plane.specs.Dart.{dart, point, direction, beside, far, reversal, stays, line, points, slots}
+use Rattle.plane.proofs.Darts.{point-dart, direction-dart, dart-own, direction-below, point-reversal}
+use Rattle.plane.proofs.Darts.{line-reversal, line-below}
 
 module _ (w h : ℕ) where
   -- a dart on the sheet starts and ends at points of the sheet
@@ -37,3 +38,26 @@ module _ (w h : ℕ) where
     line-north-in e =
         let l : 1 ≤ p / (w + 1) = ltb-true 0 (p / (w + 1)) (line-stays 3 (lit< tt) e) in
         omega (arith, mul-le-mul-right (w + 1) l, div-add-mod' p (w + 1))
+
+  -- east and south lead to greater points, west and north to smaller ones
+  beside-after : (p k : ℕ) → k < 2 → p < beside w p k
+  unfolding beside
+  beside-after p zero b = omega arith
+  beside-after p (suc zero) b = omega arith
+  beside-after p (suc (suc k)) b = absurd (omega arith)
+
+  beside-before : (p k : ℕ) → k < 4 → 2 ≤ k → line w h (dart p k) ≡ true → beside w p k < p
+  unfolding beside
+  beside-before p zero b c e = absurd (omega arith)
+  beside-before p (suc zero) b c e = absurd (omega arith)
+  beside-before p (suc (suc zero)) b c e = omega (arith, line-west-in p e)
+  beside-before p (suc (suc (suc zero))) b c e = omega (arith, line-north-in p e)
+  beside-before p (suc (suc (suc (suc k)))) b c e = absurd (omega arith)
+
+  pub far-after : (d : ℕ) → direction d < 2 → point d < far w d
+  unfolding far
+  far-after d b = beside-after (point d) (direction d) b
+
+  pub far-before : (d : ℕ) → 2 ≤ direction d → line w h d ≡ true → far w d < point d
+  unfolding far
+  far-before d b e = beside-before (point d) (direction d) (direction-below d) b (rw (dart-own d) e)

@@ -117,7 +117,8 @@ module _ (m : ℕ) (b : m < 16) where
   pub turn-straight : (k : ℕ) → k < 4 → has m (turned k 2) ≡ true → degree m ≡ 2 → (inline m ≡ 0 → ⊥) → turn m k ≡ k
   turn-straight k l u v z =
       eqb-true (turn m k) k
-      (rw (u, eq-eqb (degree m) 2 v, ne-eqb (inline m) 0 z) at (each-at 1 4 straightens all-straighten m b 0 k (lit< tt) l))
+      (rw (u, eq-eqb (degree m) 2 v, ne-eqb (inline m) 0 z)
+      at (each-at 1 4 straightens all-straighten m b 0 k (lit< tt) l))
 
   -- a mask that is not 0 has a line
   pub some-has : (m ≡ 0 → ⊥) → (k : ℕ) × (k < 4) × (has m k ≡ true)
@@ -136,6 +137,13 @@ has-none = four (λ j. has 0 j ≡ false) refl refl refl refl
 pub degree-some : (m : ℕ) → 0 < degree m → m ≡ 0 → ⊥
 unfolding degree has half
 degree-some m l e = let z : 0 < 0 = rw e at l in omega arith
+
+-- a mask that has a line has a degree
+pub has-degree : (m j : ℕ) → j < 4 → has m j ≡ true → 0 < degree m
+unfolding degree
+has-degree m =
+    four (λ j. has m j ≡ true → 0 < degree m)
+    (λ e. rw e (omega arith)) (λ e. rw e (omega arith)) (λ e. rw e (omega arith)) (λ e. rw e (omega arith))
 
 -- a mask that has a line is not 0
 pub has-some : (m j : ℕ) → j < 4 → has m j ≡ true → m ≡ 0 → ⊥
