@@ -3,7 +3,7 @@
 --   links none on f == f at the darts that are on, none elsewhere
 use mathlib.Core.Path.{_≡_, refl, sym, _∙_, ap, ap₂}
 use mathlib.Core.Bool.{Bool, true, false, _&&_}
-use Prim.Native.Nat.{ℕ, zero, suc, _≤_}
+use Prim.Native.Nat.{ℕ, zero, suc}
 use native.Mathlib.Omega.{arith}
 use Rattle.laws.proofs.Chart.{Map, Chart, Covers, Passes, times, last, level}
 use Rattle.laws.proofs.Orbit.{orbit-on}

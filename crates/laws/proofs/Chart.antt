@@ -7,10 +7,10 @@
 --   Covers m k      == from every dart some kept point is ahead
 --   Passes m k      == at a point that is not kept, next of the way back is the way back of next
 --   Few m big       == a point that is not big has at most two darts: one, and the next of its reversal
-use mathlib.Core.Path.{_≡_, refl}
+use mathlib.Core.Path.{_≡_}
 use mathlib.Core.Bool.{Bool, true, false, not, _&&_}
 use mathlib.Core.Logic.{_⊎_}
-use Prim.Native.Nat.{ℕ, zero, suc, _<_, _≤_}
+use Prim.Native.Nat.{ℕ, zero, suc, _<_}
 use lib.Dec.{eqb}
 use Rattle.laws.specs.Run.{run}
 

@@ -1,10 +1,10 @@
 -- The sides a and b of a line, and names that become one when a and b are lowered to the smaller.
 --   between a b x y == x and y are a and b, in either order
 --   lower a b v     == the larger of a and b becomes the smaller
-use mathlib.Core.Path.{_≡_, refl, sym, _∙_, ap₂}
-use mathlib.Core.Bool.{true, false, _&&_, _||_, or-comm, or-false, and-false}
-use mathlib.Core.Logic.{_≢_, _⊎_, inl, inr, ⊎-elim}
-use Prim.Native.Nat.{ℕ, min}
+use mathlib.Core.Path.{_≡_, sym, _∙_, ap₂}
+use mathlib.Core.Bool.{false, _&&_, or-comm, or-false, and-false}
+use mathlib.Core.Logic.{_≢_, inl, inr, ⊎-elim}
+use Prim.Native.Nat.{ℕ}
 use native.Mathlib.Decide.{ℕ-discrete}
 use native.Mathlib.Omega.{arith}
 use lib.Dec.{eqb}

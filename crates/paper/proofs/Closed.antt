@@ -1,41 +1,28 @@
 -- Step 4 of the removal rule: each closed curve's darts moved to its anchor, point by point.
 --   Close .. k l p  == the tables l have the links over the points k, a loopy set, and the points before p are treated
-use mathlib.Core.Path.{_≡_, refl, sym, _∙_, ap}
+use mathlib.Core.Path.{_≡_, _∙_, ap}
 use mathlib.Core.Bool.{Bool, true, false, _&&_}
 use mathlib.Core.Logic.{_≢_}
 use mathlib.Core.List.{List}
-use Prim.Native.Nat.{ℕ, zero, suc, _+_, _<_, _≤_}
+use Prim.Native.Nat.{ℕ, zero, suc, _+_, _≤_}
 use native.Mathlib.Nat.{add-zero, add-suc, suc-add}
 use native.Mathlib.Decide.{ℕ-discrete}
 use native.Mathlib.Omega.{arith}
 use lib.Dec.{eqb}
-use lib.ListN.{length, set, getD, length-set}
+use lib.ListN.{getD, length-set}
 use borrow.Author.Tests.{eq-eqb, ne-eqb}
 use Rattle.laws.proofs.Chart.{Map, level}
-use Rattle.laws.proofs.Over.{Over}
 use Rattle.laws.proofs.Meet.{Two}
 use Rattle.laws.proofs.Loop.{Loops}
 use Rattle.laws.proofs.Curve.{Tops}
 use Rattle.laws.proofs.Exchange.{instead, two-ends}
 use Rattle.laws.proofs.Anchor.{Settled, settled-more, close-top, close-loops, close-over, close-settled}
-use Rattle.plane.specs.Dart.{mark, slots, dart, point}
+use Rattle.plane.specs.Dart.{mark, slots, dart}
 use Rattle.plane.specs.Point.{degree}
 use Rattle.paper.specs.Level.{mask, big}
 use Rattle.paper.specs.Joining.{Links, at, on, low, high, moved, close, closes}
 use Rattle.paper.proofs.Pair.{two-darts}
-use Rattle.paper.proofs.Held.{
-  Plane,
-  Held,
-  at-set,
-  at-set-more,
-  plane-below,
-  small-degree,
-  on-held,
-  mask-kept,
-  two-level,
-  two-level-kept,
-  small-two,
-}
+use Rattle.paper.proofs.Held.{Plane, Held, at-set, at-set-more, plane-below, small-degree, on-held, mask-kept, two-level, two-level-kept, small-two}
 
 -- what a point is treated by
 module _ (o : ℕ → Bool) (t : List ℕ) (l : Links) (p : ℕ) where

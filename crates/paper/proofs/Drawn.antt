@@ -2,18 +2,18 @@
 --   links mark on f == f at the darts that are on, the mark elsewhere
 --   anchors w h n   == the points that level 3 keeps
 use mathlib.Core.Path.{_≡_, refl, _∙_, ap}
-use mathlib.Core.Bool.{Bool, true, false, cond, _&&_}
+use mathlib.Core.Bool.{Bool, true, cond, _&&_}
 use mathlib.Core.List.{List}
-use Prim.Native.Nat.{ℕ, _<_, _≤_}
-use lib.ListN.{length, getD}
+use Prim.Native.Nat.{ℕ, _<_}
+use lib.ListN.{length}
 use Rattle.laws.specs.Table.{table}
 use Rattle.laws.proofs.Test.{and-left}
 use Rattle.laws.proofs.Table.{getD-table}
-use Rattle.laws.proofs.Chart.{Map, Chart}
+use Rattle.laws.proofs.Chart.{Chart}
 use Rattle.laws.proofs.Chart as Chart
-use Rattle.laws.proofs.Over.{links, Over}
+use Rattle.laws.proofs.Over.{links}
 use Rattle.plane.specs.Dart.{mark, slots, point, reversal}
-use Rattle.paper.specs.Level.{side, border, next, last, along, plain, level, kept3, among, marked}
+use Rattle.paper.specs.Level.{side, border, next, last, along, plain, level, kept3, among}
 use Rattle.paper.specs.Drawing.{drawn}
 use Rattle.paper.specs.Joining.{Links, at}
 use Rattle.paper.proofs.Sheet.{lines-map, sheet, sheet-chart, sheet-few, border-alone, border-below}

@@ -2,19 +2,19 @@
 --   Plane w h x     == the map x of a sheet: its size, its points, its laws
 --   Held w h x k l  == the tables l have the links of the level of x that keeps the points k
 use mathlib.Core.Path.{_≡_, refl, sym, _∙_, ap, fun-ext}
-use mathlib.Core.Bool.{Bool, true, false, cond, not, _&&_}
+use mathlib.Core.Bool.{Bool, true, false, cond, _&&_}
 use mathlib.Core.Logic.{_≢_}
 use mathlib.Core.List.{List}
 use Prim.Native.Nat.{ℕ, _<_, _≤_}
 use native.Mathlib.Decide.{ℕ-discrete}
 use native.Mathlib.Omega.{arith}
-use lib.Dec.{eqb, ltb}
-use lib.ListN.{length, set, length-set}
+use lib.Dec.{eqb}
+use lib.ListN.{length, set}
 use lib.Seq.{getD-set-same, getD-set-other}
-use borrow.Author.Tests.{eq-eqb, ne-eqb, eqb-true, le-ltb, ltb-false}
-use Rattle.laws.proofs.Test.{and-left, and-right, clash}
+use borrow.Author.Tests.{eq-eqb, ne-eqb, le-ltb, ltb-false}
+use Rattle.laws.proofs.Test.{and-left, and-right}
 use Rattle.laws.proofs.Chart.{Map, Chart, Few, Covers, level}
-use Rattle.laws.proofs.Over.{links, put, Over}
+use Rattle.laws.proofs.Over.{put, Over}
 use Rattle.laws.proofs.Meet.{Two}
 use Rattle.laws.proofs.Link.{next-on}
 use Rattle.plane.specs.Dart.{mark, slots, dart, point, direction}

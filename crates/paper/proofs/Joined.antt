@@ -3,50 +3,38 @@
 --   low             == lowering a and b to the smaller
 --   m, m′           == the names before and after
 use mathlib.Core.Path.{_≡_, refl, sym, _∙_, ap, fun-ext}
-use mathlib.Core.Bool.{Bool, true, false, cond, _&&_}
+use mathlib.Core.Bool.{Bool, true, false}
 use mathlib.Core.Logic.{_≢_}
 use mathlib.Core.List.{List, map}
 use Prim.Native.Nat.{ℕ, zero, suc, _+_, _*_, _<_, _≤_}
 use native.Mathlib.Nat.{zero-add}
 use native.Mathlib.Omega.{arith}
-use lib.ListN.{length, getD}
 use borrow.Author.Tests.{ltb-true, lt-ltb}
 use Rattle.laws.specs.Least.{lower}
 use Rattle.laws.specs.Table.{table, number}
-use Rattle.laws.proofs.Test.{and-left}
 use Rattle.laws.proofs.Least.{lower-other}
 use Rattle.laws.proofs.Table.{table-agree}
 use Rattle.laws.proofs.Chart.{Map, Chart, Covers, Passes, less}
 use Rattle.laws.proofs.Chart as Chart
 use Rattle.laws.proofs.Level.{level-chart}
-use Rattle.laws.proofs.Less.{Alike, less-chart, less-covers, less-passes, less-level, level-colours}
+use Rattle.laws.proofs.Less.{Alike, less-chart, less-covers, less-level, level-colours}
 use Rattle.laws.proofs.Over.{links, Over}
 use Rattle.laws.proofs.Alike.{links-agree, alike-over, alike-covers}
 use Rattle.laws.proofs.Loop.{Above, Loops, loops-passes, looped-start, looped-all}
 use Rattle.laws.proofs.Anchor.{settled-start, settled-over}
-use Rattle.plane.specs.Dart.{mark, slots, points, dart, point, direction, reversal}
+use Rattle.plane.specs.Dart.{mark, slots, points, dart, point, reversal}
 use Rattle.plane.specs.Point.{degree}
 use Rattle.plane.proofs.Points.{degree-bits}
-use Rattle.paper.specs.Level.{side, border, mask, next, plain, level, big, tops, kept3, among, marked}
+use Rattle.paper.specs.Level.{side, border, mask, next, plain, level, big, tops, marked}
 use Rattle.paper.specs.Enclosure.{first, parent, parents}
 use Rattle.paper.specs.Drawing.{Tables, drawn}
-use Rattle.paper.specs.Joining.{Links, at, on, shared, removed, pruned, smoothed, closes, closed, joined}
-use Rattle.paper.proofs.Sheet.{
-  lines-map,
-  sheet,
-  sheet-chart,
-  sheet-few,
-  sheet-colours,
-  border-alone,
-  border-back,
-  border-below,
-  border-lines,
-}
+use Rattle.paper.specs.Joining.{Links, at, on, shared, removed, pruned, smoothed, closed, joined}
+use Rattle.paper.proofs.Sheet.{lines-map, sheet, sheet-chart, sheet-few, sheet-colours, border-alone, border-back, border-below, border-lines}
 use Rattle.paper.proofs.Fewer.{fewer-border, fewer-next, fewer-lines, fewer-side}
 use Rattle.paper.proofs.Marks.{same-at, marked-agree, on-marked, next-small}
-use Rattle.paper.proofs.Removed.{Reads, on-links, removed-lengths, removed-next, removed-other}
+use Rattle.paper.proofs.Removed.{on-links, removed-lengths, removed-next, removed-other}
 use Rattle.paper.proofs.Pruned.{pruned-none}
-use Rattle.paper.proofs.Held.{Plane, Held, on-held, level-alone}
+use Rattle.paper.proofs.Held.{Held, on-held, level-alone}
 use Rattle.paper.proofs.Smoothed.{Smooth, smooth-all}
 use Rattle.paper.proofs.Closed.{Close, close-all}
 use Rattle.paper.proofs.Kept.{top, mask-some, dart-point, sheet-tops, sheet-anchored, sheet-loops}

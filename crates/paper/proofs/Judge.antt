@@ -4,17 +4,17 @@
 --   hung w i        == the north dart of the left line of cell i
 --   told w t v i    == the label of cell i by the table t of sides, where v is the label to its left
 --   Carried n v i   == v is the name of the cell before cell i, by the table n, where there is one
-use mathlib.Core.Path.{_≡_, refl, sym, ap, ap₂, _∙_, subst}
+use mathlib.Core.Path.{_≡_, refl, sym, ap, ap₂, _∙_}
 use mathlib.Core.Bool.{Bool, true, false, cond, _&&_, false≢true}
 use mathlib.Core.List.{List, [], _∷_}
 use mathlib.Core.Logic.{_↔_}
-use Prim.Native.Nat.{ℕ, zero, suc, _+_, _*_, _/_, _%_, _≤_, _<_}
-use native.Mathlib.Nat.{mul-add-div-right, div-eq-of-lt, div-add-mod', div-lt-iff-lt-mul, mod-lt}
-use native.Mathlib.Nat.{add-zero, zero-add, mul-comm, zero-mul, suc-mul, mul-add}
+use Prim.Native.Nat.{ℕ, zero, suc, _+_, _*_, _/_, _≤_, _<_}
+use native.Mathlib.Nat.{mul-add-div-right, div-eq-of-lt}
+use native.Mathlib.Nat.{add-zero, zero-add, suc-mul, mul-add}
 use native.Mathlib.Omega.{arith}
 use lib.Dec.{eqb}
 use lib.ListN.{length, getD}
-use borrow.Author.Tests.{eq-eqb, ne-eqb, eqb-true, lt-ltb}
+use borrow.Author.Tests.{eq-eqb, ne-eqb, eqb-true}
 use Rattle.laws.specs.Table.{listed, table}
 use Rattle.laws.proofs.Table.{table-entries}
 use Rattle.laws.proofs.Test.{and-true, and-left, and-right}

@@ -5,92 +5,22 @@
 --   read t ds       == the entries of a table at some places
 --   refusal ..      == the number of joining a with b in the drawing of a sheet
 use mathlib.Core.Path.{_≡_, refl}
-use mathlib.Core.Bool.{Bool, true, false, not, _&&_}
+use mathlib.Core.Bool.{Bool, true, false}
 use mathlib.Core.List.{List, [], _∷_, map}
 use Prim.Native.Nat.{ℕ, zero, suc}
-use lib.Dec.{eqb}
 use Rattle.laws.specs.Table.{listed, table, number, count, some}
 use Rattle.laws.specs.Least.{lower, tie, ties, least}
 use Rattle.laws.specs.Run.{run}
 use Rattle.plane.specs.Size.{widest, within}
-use Rattle.plane.specs.Dart.{
-  mark,
-  points,
-  slots,
-  dart,
-  point,
-  direction,
-  beside,
-  far,
-  turned,
-  reversal,
-  stays,
-  line,
-}
+use Rattle.plane.specs.Dart.{mark, points, slots, dart, point, direction, beside, far, turned, reversal, stays, line}
 use Rattle.plane.specs.Point.{bits, half, has, corner, right, left, parts, present, degree, inline}
 use Rattle.plane.specs.Turn.{turn}
 use Rattle.paper.specs.Name.{label, west, north, names, named, cells}
-use Rattle.paper.specs.Level.{
-  side,
-  border,
-  mask,
-  next,
-  plain,
-  last,
-  along,
-  big,
-  bent,
-  tops,
-  anchor,
-  kept2,
-  kept3,
-  among,
-  level,
-  marked,
-}
+use Rattle.paper.specs.Level.{side, border, mask, next, plain, last, along, big, bent, tops, anchor, kept2, kept3, among, level, marked}
 use Rattle.paper.specs.Enclosure.{first, parent, parents, above, depth, holes}
 use Rattle.paper.specs.Drawing.{Tables, drawn, drawing, fresh, recover, recovered, alike, same, judged}
-use Rattle.paper.specs.Joining.{
-  at,
-  on,
-  between,
-  shared,
-  chase,
-  removed,
-  hanging,
-  prune,
-  pruned,
-  low,
-  high,
-  spliced,
-  smooth,
-  smooths,
-  smoothed,
-  moved,
-  close,
-  closes,
-  closed,
-  joined,
-}
-use Rattle.paper.specs.Refusal.{
-  sized,
-  cleared,
-  outcome,
-  levelRefusal,
-  levelTables,
-  levelled,
-  five,
-  stated,
-  drawRefusal,
-  mapped,
-  used,
-  adjoin,
-  joinRefusal,
-  merged,
-  countRefusal,
-  deepened,
-  holed,
-}
+use Rattle.paper.specs.Joining.{at, on, between, shared, chase, removed, hanging, prune, pruned, low, high, spliced, smooth, smooths, smoothed, moved, close, closes, closed, joined}
+use Rattle.paper.specs.Refusal.{sized, cleared, outcome, levelRefusal, levelTables, levelled, five, stated, drawRefusal, mapped, used, adjoin, joinRefusal, merged, countRefusal, deepened, holed}
 
 record Claim : Type 0 where
   computed : List ℕ

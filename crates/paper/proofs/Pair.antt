@@ -2,7 +2,7 @@
 --   low m, high m   == the first and the last direction of a mask
 --   Pair m          == the mask has two directions, low m and high m
 use mathlib.Core.Path.{_≡_, refl, sym, _∙_, ap}
-use mathlib.Core.Bool.{Bool, true, false, not, _&&_, _||_}
+use mathlib.Core.Bool.{Bool, true, not, _&&_, _||_}
 use mathlib.Core.Logic.{_≢_, _⊎_, ⊎-map}
 use Prim.Native.Nat.{ℕ, _<_}
 use lib.Dec.{eqb, ltb, lit<}

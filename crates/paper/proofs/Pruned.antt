@@ -1,10 +1,8 @@
 -- Step 2 of the removal rule finds nothing where no point has exactly one dart.
 use mathlib.Core.Path.{_≡_, refl}
-use mathlib.Core.Bool.{true, false, _&&_, and-false}
+use mathlib.Core.Bool.{false, and-false}
 use Prim.Native.Nat.{ℕ, zero, suc}
-use lib.Dec.{eqb}
 use borrow.Author.Tests.{ne-eqb}
-use Rattle.laws.specs.Table.{some}
 use Rattle.laws.proofs.Table.{none-some}
 use Rattle.plane.specs.Dart.{slots, point}
 use Rattle.plane.specs.Point.{degree}

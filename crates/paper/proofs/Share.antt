@@ -1,33 +1,21 @@
 -- Two regions that share a line have cells side by side.
 --   Shore w h n p q == two cells side by side, one named p and the other q
-use mathlib.Core.Path.{_≡_, refl, sym, _∙_, ap}
+use mathlib.Core.Path.{_≡_, refl, sym}
 use mathlib.Core.Bool.{true}
-use mathlib.Core.Logic.{_≢_, _⊎_, inl, inr, ⊎-swap}
+use mathlib.Core.Logic.{_≢_, _⊎_, inl, ⊎-swap}
 use mathlib.Core.List.{List}
 use Prim.Native.Nat.{ℕ, zero, suc, _+_, _*_, _<_}
 use native.Mathlib.Decide.{decLt}
 use native.Mathlib.Omega.{arith}
 use lib.ListN.{getD}
-use Rattle.plane.specs.Dart.{line, reversal, dart}
-use Rattle.plane.proofs.Darts.{place, every-line}
+use Rattle.plane.specs.Dart.{line, reversal}
+use Rattle.plane.proofs.Darts.{every-line}
 use Rattle.paper.specs.Name.{named}
 use Rattle.paper.specs.Level.{side, border}
 use Rattle.paper.proofs.Name.{Beside, beside-row, beside-column}
 use Rattle.paper.proofs.Cells.{named-east, named-south}
 use Rattle.paper.proofs.First.{named-cell}
-use Rattle.paper.proofs.Sheet.{
-  across,
-  side-east,
-  side-south,
-  side-west,
-  side-north,
-  across-east,
-  across-south,
-  across-west,
-  across-north,
-  side-reversal,
-  border-line,
-}
+use Rattle.paper.proofs.Sheet.{across, side-east, side-south, side-west, side-north, across-east, across-south, across-west, across-north, side-reversal, border-line}
 
 pub record Shore (w h : ℕ) (n : List ℕ) (p q : ℕ) : Type 0 where
   pub one : ℕ

@@ -1,23 +1,22 @@
 -- Step 3 of the removal rule: points with two darts of two different edges taken out, one after another.
 --   Smooth .. k l p == the tables l have the links over the points k, and the points before p are treated
-use mathlib.Core.Path.{_≡_, refl, sym, _∙_, ap}
+use mathlib.Core.Path.{_≡_, sym, _∙_, ap}
 use mathlib.Core.Bool.{Bool, true, false, not, _&&_, and-false}
 use mathlib.Core.Logic.{_≢_}
-use mathlib.Core.List.{List}
 use Prim.Native.Nat.{ℕ, zero, suc, _+_, _<_, _≤_}
 use native.Mathlib.Nat.{add-zero, add-suc, suc-add}
 use native.Mathlib.Decide.{ℕ-discrete}
 use native.Mathlib.Omega.{arith}
 use lib.Dec.{eqb}
-use lib.ListN.{length, set, length-set}
+use lib.ListN.{length-set}
 use borrow.Author.Tests.{eq-eqb, ne-eqb}
 use Rattle.laws.proofs.Chart.{Map, Covers, level}
-use Rattle.laws.proofs.Over.{Over, without, over-other}
+use Rattle.laws.proofs.Over.{without, over-other}
 use Rattle.laws.proofs.Meet.{Two}
 use Rattle.laws.proofs.Link.{other-on}
 use Rattle.laws.proofs.Splice.{splice-covers, splice-over}
 use Rattle.laws.proofs.Loop.{Above, Looped, above-without, above-passes, looped-more, looped-two, looped-without}
-use Rattle.plane.specs.Dart.{mark, slots, dart, point}
+use Rattle.plane.specs.Dart.{mark, slots, dart}
 use Rattle.plane.specs.Point.{degree}
 use Rattle.paper.specs.Level.{mask, big}
 use Rattle.paper.specs.Joining.{Links, at, on, low, high, spliced, smooth, smooths}

@@ -2,19 +2,17 @@
 --   Joinable w h t a b == a and b are two different regions of the drawing t, neither the outside, that share a line
 --   Sitting w h t u    == joins, one after another, lead from the tables t to the tables u
 use mathlib.Core.Path.{_≡_, refl, sym, _∙_, ap}
-use mathlib.Core.Bool.{Bool, true, false, not, _&&_, _||_}
+use mathlib.Core.Bool.{Bool, true, false, _&&_}
 use mathlib.Core.Logic.{_≢_, _⊎_, inl, inr, ⊎-elim}
 use mathlib.Core.List.{List, map}
 use Prim.Native.Nat.{ℕ, _*_, _<_, _≤_}
 use native.Mathlib.Omega.{arith}
 use lib.Dec.{eqb}
-use lib.ListN.{length, getD, length-map}
+use lib.ListN.{length-map}
 use borrow.Author.Tests.{eqb-true, eqb-false, not-true}
 use Rattle.laws.specs.Least.{lower}
-use Rattle.laws.specs.Table.{some}
 use Rattle.laws.proofs.Test.{and-left, and-right, or-either}
 use Rattle.laws.proofs.Table.{some-found}
-use Rattle.laws.proofs.Least.{lower-le}
 use Rattle.plane.specs.Dart.{mark, slots, reversal}
 use Rattle.paper.specs.Name.{names}
 use Rattle.paper.specs.Level.{side, border, plain, level}
@@ -24,7 +22,6 @@ use Rattle.paper.specs.Refusal.{used, adjoin}
 use Rattle.paper.proofs.Name.{length-names, join-names}
 use Rattle.paper.proofs.Sheet.{border-back, border-below}
 use Rattle.paper.proofs.Marks.{at-free, cells-slots, names-side-small}
-use Rattle.paper.proofs.Fewer.{fewer-side}
 use Rattle.paper.proofs.Enclosure.{parents-past}
 use Rattle.paper.proofs.Drawn.{drawn-side1}
 use Rattle.paper.proofs.Share.{Shore, shore-swap, border-shore}

@@ -14,7 +14,7 @@ use lib.ListN.{getD, length}
 use Rattle.laws.specs.Least.{lower}
 use Rattle.plane.specs.Dart.{mark, dart}
 use Rattle.paper.specs.Name.{names}
-use Rattle.paper.specs.Level.{Level, side, border, level, marked}
+use Rattle.paper.specs.Level.{side, border, level, marked}
 use Rattle.paper.specs.Enclosure.{parents}
 
 pub record Tables : Type 0 where

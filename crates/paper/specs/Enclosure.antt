@@ -4,7 +4,7 @@
 --   parents ..      == the table of parents, by name
 --   depth t r       == how many parents up from r the outside is
 --   holes t r       == how many regions have the parent r
-use mathlib.Core.Bool.{Bool, true, false, cond, _&&_}
+use mathlib.Core.Bool.{Bool, cond, _&&_}
 use mathlib.Core.List.{List}
 use Prim.Native.Nat.{ℕ, zero, suc, _+_, _*_, _/_}
 use lib.Dec.{eqb}

@@ -7,8 +7,8 @@
 --   along w h on k  == the level of the same lines with the points that pass the test k kept
 --   tops w h on     == for each point the least point of its piece
 --   level w h n l   == level l of the sheet with the names n
-use mathlib.Core.Bool.{Bool, true, false, cond, not, _&&_, _||_}
-use mathlib.Core.List.{List, [], _∷_}
+use mathlib.Core.Bool.{Bool, false, cond, not, _&&_, _||_}
+use mathlib.Core.List.{List}
 use Prim.Native.Nat.{ℕ, zero, suc, _+_, _-_}
 use lib.Dec.{eqb, ltb}
 use lib.ListN.{getD}

@@ -3,7 +3,7 @@
 --   values          == the numbers that are answered
 --   tables, work    == what the lent tables and the work tables hold afterwards, in the order in which they are lent
 --   levelled, mapped, merged, deepened, holed == the outcomes of level drawing, whole drawing, joining, depth and hole count
-use mathlib.Core.Bool.{Bool, true, false, cond, not, _&&_, _||_}
+use mathlib.Core.Bool.{Bool, true, cond, not, _&&_, _||_}
 use mathlib.Core.List.{List, [], _∷_, map}
 use Prim.Native.Nat.{ℕ, zero, suc, _+_, _*_}
 use lib.Dec.{eqb, ltb}
@@ -12,10 +12,10 @@ use Rattle.laws.specs.Table.{some}
 use Rattle.plane.specs.Size.{within}
 use Rattle.plane.specs.Dart.{slots, reversal}
 use Rattle.paper.specs.Name.{names}
-use Rattle.paper.specs.Level.{Level, side, level, marked}
+use Rattle.paper.specs.Level.{side, level, marked}
 use Rattle.paper.specs.Enclosure.{depth, holes}
 use Rattle.paper.specs.Drawing.{Tables, drawing, judged}
-use Rattle.paper.specs.Joining.{at, on, shared, joined}
+use Rattle.paper.specs.Joining.{on, shared, joined}
 
 pub record Outcome : Type 0 where
   pub number : ℕ

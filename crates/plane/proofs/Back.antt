@@ -1,13 +1,13 @@
 -- The way back along a line that stays on the sheet.
-use mathlib.Core.Path.{_≡_, refl}
-use mathlib.Core.Bool.{Bool, true, false, _&&_}
-use Prim.Native.Nat.{ℕ, zero, suc, _+_, _*_, _-_, _/_, _%_, _≤_, _<_}
+use mathlib.Core.Path.{_≡_}
+use mathlib.Core.Bool.{true, _&&_}
+use Prim.Native.Nat.{ℕ, zero, suc, _+_, _/_, _%_, _≤_}
 use native.Mathlib.Nat.{mod-lt, div-add-mod', mul-le-mul}
 use native.Mathlib.Omega.{arith}
 use lib.Dec.{leb}
 use borrow.Author.Tests.{leb-true, le-leb, lt-ltb}
 use Rattle.plane.specs.Size.{within}
-use Rattle.plane.specs.Dart.{mark, dart, made, point, direction, beside, far, turned, reversal, stays, line, reversed}
+use Rattle.plane.specs.Dart.{mark, made, point, direction, beside, far, turned, reversal, stays, line, reversed}
 use Rattle.laws.proofs.Test.{and-left, and-right}
 use Rattle.plane.proofs.Limit.{Within, within-limits}
 

@@ -1,5 +1,5 @@
 -- An entry of a constant table that is its rule's table, read at the place of a mask and a heading or a second mask.
-use mathlib.Core.Path.{_≡_, refl, ap, _∙_}
+use mathlib.Core.Path.{_≡_}
 use mathlib.Core.List.{List}
 use Prim.Native.Nat.{ℕ, _+_, _*_, _<_, _/_, _%_}
 use native.Mathlib.Omega.{arith}
@@ -7,7 +7,7 @@ use borrow.Author.Tests.{lt-ltb}
 use lib.ListN.{getD}
 use Rattle.laws.specs.Table.{table}
 use Rattle.laws.proofs.Table.{getD-table}
-use Rattle.plane.specs.Turn.{turn, becomes, turns, outcomes, turnOf, becomesOf}
+use Rattle.plane.specs.Turn.{turns, outcomes, turnOf, becomesOf}
 
 pub turn-entry : (xs : List ℕ) (m k : ℕ) → xs ≡ table 64 turns → m < 16 → k < 4 → getD xs (4 * m + k) 0 ≡ turnOf m k
 unfolding turns turnOf

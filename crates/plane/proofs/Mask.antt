@@ -2,16 +2,14 @@
 --   every f         == the test f passes at true and at false
 use mathlib.Core.Path.{_≡_, refl}
 use mathlib.Core.Bool.{Bool, true, false, _&&_}
-use mathlib.Core.List.{List}
 use Prim.Native.Nat.{ℕ, zero, suc, _+_, _*_, _/_, _%_, _<_}
-use native.Mathlib.Nat.{mod-lt}
 use native.Mathlib.Omega.{arith}
 use lib.Dec.{eqb}
 use borrow.Author.Tests.{eqb-true}
 use Rattle.laws.specs.Table.{number}
 use Rattle.laws.proofs.Test.{and-left, and-right}
 use Rattle.plane.specs.Dart.{turned}
-use Rattle.plane.specs.Point.{bits, half, has, parts, present, degree, inline}
+use Rattle.plane.specs.Point.{bits, half, has, degree, inline}
 
 every : (Bool → Bool) → Bool
 every f = f true && f false

@@ -1,7 +1,7 @@
 -- The size of a sheet.
 --   widest          == the greatest width and the greatest height
 --   within w h      == width and height are both 1 to the greatest
-use mathlib.Core.Bool.{Bool, true, false, _&&_}
+use mathlib.Core.Bool.{Bool, _&&_}
 use Prim.Native.Nat.{ℕ}
 use lib.Dec.{leb}
 

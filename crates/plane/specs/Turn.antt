@@ -4,7 +4,7 @@
 --   becomes m t     == what a point with the lines m becomes when the lines t are taken
 --   turns, outcomes == the two rules over their whole tables: at 4 m + k and at 16 m + t
 --   turnOf, becomesOf == the rules for any numbers: 4 where one is no mask or no direction
-use mathlib.Core.Bool.{Bool, true, false, cond, not, _&&_, _||_}
+use mathlib.Core.Bool.{Bool, cond, not, _&&_, _||_}
 use Prim.Native.Nat.{ℕ, _/_, _%_}
 use lib.Dec.{eqb, ltb}
 use Rattle.plane.specs.Dart.{turned}

@@ -1,5 +1,5 @@
-use mathlib.Core.Path.{refl, _∙_}
-use Prim.Native.Nat.{_+_, _*_, _/_, _%_, suc-le-suc}
+use mathlib.Core.Path.{refl}
+use Prim.Native.Nat.{suc-le-suc}
 use borrow.Author.Tests.{lt-ltb, le-ltb}
 use Rattle.laws.specs.Table.{table, listed}
 use Rattle.plane.specs.Dart.{turned}
