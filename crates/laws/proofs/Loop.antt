@@ -195,7 +195,7 @@ module _ {m : Map} {big : ℕ → Bool} (c : Chart m) (f : Few m big) where
         (sym (next-at c (g .covers) d h) ∙ ap pt (g .loopy .loop d h e b)))
 
     -- the run from a big point leads to a big point
-    big-there : (d : ℕ) → on d ≡ true → big (pt d) ≡ true → big (pt (other m k d)) ≡ true
+    pub big-there : (d : ℕ) → on d ≡ true → big (pt d) ≡ true → big (pt (other m k d)) ≡ true
     big-there d h b = go (big (pt (other m k d))) refl
       where
         go : (x : Bool) → big (pt (other m k d)) ≡ x → big (pt (other m k d)) ≡ true

@@ -55,7 +55,7 @@ pub at-set-more : (t : List ℕ) {f : ℕ → ℕ} (y v : ℕ) → y < length t 
 unfolding put
 at-set-more t y v l e d = at-set t y v l d ∙ ap (cond (eqb d y) v) (e d)
 
-mask-agree : (o q : ℕ → Bool) (p : ℕ) → ((k : ℕ) → k < 4 → o (dart p k) ≡ q (dart p k)) → mask o p ≡ mask q p
+pub mask-agree : (o q : ℕ → Bool) (p : ℕ) → ((k : ℕ) → k < 4 → o (dart p k) ≡ q (dart p k)) → mask o p ≡ mask q p
 unfolding mask
 mask-agree o q p e = bits-same (λ k. o (dart p k)) (λ k. q (dart p k)) e
 

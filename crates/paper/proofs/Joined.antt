@@ -128,11 +128,11 @@ module _ (w h a b : ℕ) (n : List ℕ) (room : slots w h ≤ mark) (apart : a �
   abbrev o′ : ℕ → Bool
   o′ = border w h n′
 
-  outside : lower a b 0 ≡ 0
+  pub outside : lower a b 0 ≡ 0
   outside = lower-other a b 0 (λ e. za (sym e)) (λ e. zb (sym e))
 
   -- fewer regions are fewer lines
-  fewer-alike : Alike (less m (lower a b)) m′
+  pub fewer-alike : Alike (less m (lower a b)) m′
   unfolding less sheet lines-map
   fewer-alike =
       record {
@@ -142,14 +142,14 @@ module _ (w h a b : ℕ) (n : List ℕ) (room : slots w h ≤ mark) (apart : a �
       }
 
   -- Steps 1 and 2 at level 1.
-  l1 : Links
+  abbrev l1 : Links
   l1 = record { next = drawn w h n .next1; other = table (slots w h) (reversal w) }
 
-  r1 : Links
+  abbrev r1 : Links
   r1 = removed w h l1 (shared (drawn w h n .side1) (at (l1 .other)) a b)
 
   r1-next : (d : ℕ) → at (r1 .next) d ≡ links mark o′ (next w o′) d
-  unfolding r1 l1 sheet lines-map
+  unfolding sheet lines-map
   r1-next d =
       removed-next (sheet-chart w h n) (sheet-colours w h n) (drawn-reads w h n) room apart d
       ∙ links-agree mark (fewer-alike .same-on) (fewer-alike .same-nx) d
@@ -157,11 +157,14 @@ module _ (w h a b : ℕ) (n : List ℕ) (room : slots w h ≤ mark) (apart : a �
   r1-on : on (r1 .next) ≡ o′
   r1-on = fun-ext (on-links (r1 .next) r1-next (λ d e q. let s = next-small w h o′ (border-lines w h n′) room d e in omega arith))
 
+  -- no line is left alone at a point
+  pub r1-alone : (p : ℕ) → degree (mask (on (r1 .next)) p) ≡ 1 → ⊥
+  r1-alone p e = border-alone w h n′ p (rw r1-on at e)
+
   r1-pruned : pruned w h r1 ≡ r1
-  r1-pruned = pruned-none w h r1 (λ p e. border-alone w h n′ p (rw r1-on at e))
+  r1-pruned = pruned-none w h r1 r1-alone
 
   r1-is : r1 .next ≡ drawn w h n′ .next1
-  unfolding r1
   r1-is =
       same-at (slots w h) (r1 .next) (drawn w h n′ .next1)
       (removed-lengths w h l1 (shared (drawn w h n .side1) (at (l1 .other)) a b) .0) (length-next1 w h n′)
@@ -174,11 +177,10 @@ module _ (w h a b : ℕ) (n : List ℕ) (room : slots w h ≤ mark) (apart : a �
   passes : Passes m (anchors w h n)
   passes = loops-passes (sheet-chart w h n) (sheet-few w h n) loops
 
-  r3 : Links
+  abbrev r3 : Links
   r3 = removed w h (drawn-links w h n) (shared (drawn w h n .side1) (at (drawn-links w h n .other)) a b)
 
   r3-over-less : Over mark (less m (lower a b)) (anchors w h n) (at (r3 .next)) (at (r3 .other))
-  unfolding r3
   r3-over-less =
       let c = sheet-chart w h n in
       let lc = level-chart c (loops .covers) passes in
@@ -189,11 +191,11 @@ module _ (w h a b : ℕ) (n : List ℕ) (room : slots w h ≤ mark) (apart : a �
         others = λ d. removed-other lc lo (level-reads w h n) room apart d ∙ links-agree mark (e .same-on) (e .same-rev) d;
       }
 
-  covers-less : Covers (less m (lower a b)) (anchors w h n)
+  pub covers-less : Covers (less m (lower a b)) (anchors w h n)
   covers-less = less-covers (sheet-chart w h n) passes (lower a b) (loops .covers)
 
   r3-held : Held w h m′ (anchors w h n) r3
-  unfolding r3 less sheet lines-map
+  unfolding less sheet lines-map
   r3-held =
       let e = removed-lengths w h (drawn-links w h n) (shared (drawn w h n .side1) (at (drawn-links w h n .other)) a b) in
       record {
@@ -202,18 +204,20 @@ module _ (w h a b : ℕ) (n : List ℕ) (room : slots w h ≤ mark) (apart : a �
         others = e .1;
       }
 
-  r3-covers : Covers m′ (anchors w h n)
+  pub r3-covers : Covers m′ (anchors w h n)
   unfolding less sheet lines-map
   r3-covers = alike-covers (less-chart (sheet-chart w h n) (lower a b)) refl (λ d. refl) fewer-alike covers-less
 
+  pub r3-alone : (p : ℕ) → degree (mask (on (r3 .next)) p) ≡ 1 → ⊥
+  r3-alone p e =
+      level-alone (sheet-plane w h n′) (anchors w h n) p
+      (rw (on-held (sheet-plane w h n′) (anchors w h n) room r3-covers r3-held) at e)
+
   r3-pruned : pruned w h r3 ≡ r3
-  r3-pruned =
-      pruned-none w h r3
-      (λ p e. level-alone (sheet-plane w h n′) (anchors w h n) p
-      (rw (on-held (sheet-plane w h n′) (anchors w h n) room r3-covers r3-held) at e))
+  r3-pruned = pruned-none w h r3 r3-alone
 
   -- Step 3.
-  anchors-above : Above (big o′) (anchors w h n)
+  pub anchors-above : Above (big o′) (anchors w h n)
   anchors-above =
       record {
         above = λ p e.
@@ -276,7 +280,7 @@ module _ (w h a b : ℕ) (n : List ℕ) (room : slots w h ≤ mark) (apart : a �
 
   -- All five steps.
   pub joined-drawn : ((d : ℕ) → side w h n′ d < mark) → joined w h (drawn w h n) a b ≡ drawn w h n′
-  unfolding joined r1 l1 r3 s3 c3 s1
+  unfolding joined s3 c3 s1
   joined-drawn small =
       let (nexts, others) = held-is w h n′ c3 c3-held in
       tables-path (joined w h (drawn w h n) a b) (drawn w h n′)

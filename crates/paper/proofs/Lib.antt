@@ -16,6 +16,7 @@ mod Marked
 pub mod Marks
 pub mod Name
 pub mod Next
+pub mod Outcome
 pub mod Pair
 pub mod Piece
 pub mod Pruned
@@ -26,3 +27,4 @@ pub mod Smoothed
 pub mod Straight
 pub mod Theorem
 pub mod Unique
+pub mod Untouched

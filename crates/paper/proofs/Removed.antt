@@ -65,11 +65,11 @@ module _ {w h : ℕ} {x : Map} {colour : ℕ → ℕ} {l : Links} {s : List ℕ}
   on-next = on-links (l .next) (r .nexts) (λ d h. no-mark (nx d) (c .turns .stays d h))
 
   module _ {a b : ℕ} (n : a ≢ b) where
-    gone : ℕ → Bool
+    abbrev gone : ℕ → Bool
     gone = shared s (at (l .other)) a b
 
-    gone-taken : (d : ℕ) → x .on d ≡ true → gone d ≡ taken x (lower a b) d
-    unfolding gone shared taken
+    pub gone-taken : (d : ℕ) → x .on d ≡ true → gone d ≡ taken x (lower a b) d
+    unfolding shared taken
     gone-taken d h =
         rw (r .sides d h, r .others d h, r .sides (rev d) (c .rev-on d h))
         (between-lower a b (side d) (side (rev d)) n (λ e. c .parts d h (sym e)))
@@ -106,7 +106,7 @@ module _ {w h : ℕ} {x : Map} {colour : ℕ → ℕ} {l : Links} {s : List ℕ}
 
     pub removed-next : (d : ℕ)
         → at (removed w h l (shared s (at (l .other)) a b) .next) d ≡ links mark (less x (lower a b) .on) (less x (lower a b) .nx) d
-    unfolding links removed gone rest less
+    unfolding links removed rest less
     removed-next d =
         at-marked w h rest (λ e. chase l gone (at (l .next) e)) rest-below d
         ∙ links-agree mark rest-on
@@ -118,7 +118,7 @@ module _ {w h : ℕ} {x : Map} {colour : ℕ → ℕ} {l : Links} {s : List ℕ}
 
     pub removed-other : (d : ℕ)
         → at (removed w h l (shared s (at (l .other)) a b) .other) d ≡ links mark (less x (lower a b) .on) (less x (lower a b) .rev) d
-    unfolding links removed gone rest less
+    unfolding links removed rest less
     removed-other d =
         at-marked w h rest (at (l .other)) rest-below d
         ∙ links-agree mark rest-on (λ e t. r .others e (rest-was e t)) d

@@ -79,7 +79,7 @@ module _ (w h : ℕ) (s : List ℕ) (room : slots w h ≤ mark) where
         (λ p. shore-swap (shores b a d (used-below b (j .regions .1)) (j .inner .1) (j .inner .0) (p .0) (p .1)))
         (between-either a b (at (drawn w h n .side1) d) (at (drawn w h n .side1) (reversal w d)) e)
 
-    joined-names : names w h (map (lower a b) n) ≡ map (lower a b) n
+    pub joined-names : names w h (map (lower a b) n) ≡ map (lower a b) n
     joined-names = let c = shore in join-names w h s a b (c .one) (c .two) (c .beside) (c .first) (c .second)
 
     -- The theorem.

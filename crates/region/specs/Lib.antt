@@ -1,0 +1,2 @@
+pub mod Forest
+pub mod Frame
