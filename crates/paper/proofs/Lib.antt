@@ -15,6 +15,7 @@ pub mod Kept
 mod Marked
 pub mod Marks
 pub mod Name
+pub mod Neighbour
 pub mod Next
 pub mod Outcome
 pub mod Pair

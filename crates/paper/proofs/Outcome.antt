@@ -35,7 +35,7 @@ use Rattle.paper.proofs.Held.{mask-agree}
 use Rattle.paper.proofs.Drawn.{drawn-next1, drawn-reads}
 use Rattle.paper.proofs.Pruned.{no-hanging}
 use Rattle.paper.proofs.Joined.{r1-alone, r3-alone}
-use Rattle.paper.proofs.Theorem.{Joinable}
+use Rattle.paper.specs.Sitting.{Joinable}
 
 -- step 1, as the removal rule has it
 abbrev pub rest1 : ℕ → ℕ → Tables → ℕ → ℕ → Links

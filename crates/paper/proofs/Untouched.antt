@@ -1,7 +1,4 @@
 -- A curve neither of whose ends touches a removed curve keeps its links.
---   Away t a b p    == no curve of t that is removed when a and b are joined has an end at the point p
---   Untouched .. d  == this holds at both ends of the curve of the dart d
---   Keeps t u d     == d and its other in t have the same next and other in t and in u
 --   o, o′           == the lines before and after a and b are joined; m, m′ == their maps
 --   k, k′           == the points that level 3 keeps before and after
 --   Free p          == no line at the point p is removed
@@ -30,7 +27,8 @@ use Rattle.plane.proofs.Darts.{point-dart, point-reversal}
 use Rattle.paper.specs.Name.{names}
 use Rattle.paper.specs.Level.{border, mask, next, big}
 use Rattle.paper.specs.Drawing.{Tables, drawn, drawing, fresh}
-use Rattle.paper.specs.Joining.{at, on, shared, joined}
+use Rattle.paper.specs.Joining.{at, on, joined}
+use Rattle.paper.specs.Sitting.{Joinable, Away, Untouched, Keeps}
 use Rattle.paper.proofs.Sheet.{lines-map, sheet, sheet-chart, sheet-few, sheet-colours, border-lines}
 use Rattle.paper.proofs.Fewer.{fewer-lines, fewer-taken, fewer-border}
 use Rattle.paper.proofs.Piece.{Inside, Line, west, north, piece-top, top-piece, tops-le}
@@ -39,20 +37,7 @@ use Rattle.paper.proofs.Held.{mask-agree, on-held}
 use Rattle.paper.proofs.Kept.{top, dart-point, sheet-inside, sheet-anchored, sheet-loops}
 use Rattle.paper.proofs.Drawn.{anchors, sheet-plane, drawn-held, level-reads}
 use Rattle.paper.proofs.Joined.{big-more, outside, fewer-alike, covers-less, r3-covers, anchors-above}
-use Rattle.paper.proofs.Theorem.{Joinable, joined-names, removal-is-fresh}
-
-abbrev pub Away : Tables → ℕ → ℕ → ℕ → Type 0
-Away t a b p = (g : ℕ) → on (t .next3) g ≡ true → shared (t .side1) (at (t .other3)) a b g ≡ true → point g ≢ p
-
-pub record Untouched (t : Tables) (a b d : ℕ) : Type 0 where
-  pub near : Away t a b (point d)
-  pub far : Away t a b (point (at (t .other3) d))
-
-pub record Keeps (t u : Tables) (d : ℕ) : Type 0 where
-  pub next : at (u .next3) d ≡ at (t .next3) d
-  pub other : at (u .other3) d ≡ at (t .other3) d
-  pub far-next : at (u .next3) (at (t .other3) d) ≡ at (t .next3) (at (t .other3) d)
-  pub far-other : at (u .other3) (at (t .other3) d) ≡ d
+use Rattle.paper.proofs.Neighbour.{joined-names, fresh-joined}
 
 -- A chain of fewer lines is a chain of more: a point that stands for itself among more stands for itself among fewer.
 module _ (w h : ℕ) {o q : ℕ → Bool} (more : (d : ℕ) → o d ≡ true → q d ≡ true) (i : Inside w h o) where
@@ -287,11 +272,10 @@ module _ (w h a b : ℕ) (n : List ℕ) (room : slots w h ≤ mark) (apart : a �
       let (r, s) = entries-keep g (other-there d i) (z .far) (rw (other-back d i) (z .near)) in
       record { next = p; other = q; far-next = r; far-other = s ∙ other-back d i }
 
--- The theorem.
-pub untouched : (w h : ℕ) (s : List ℕ) → slots w h ≤ mark → (a b : ℕ) → Joinable w h (drawing w h s) a b → (d : ℕ)
+pub keeps-joined : (w h : ℕ) (s : List ℕ) → slots w h ≤ mark → (a b : ℕ) → Joinable w h (drawing w h s) a b → (d : ℕ)
     → on (drawing w h s .next3) d ≡ true → Untouched (drawing w h s) a b d
     → Keeps (drawing w h s) (joined w h (drawing w h s) a b) d
 unfolding drawing fresh
-untouched w h s room a b j d i z =
-    rw (removal-is-fresh w h s room a b j, joined-names w h s room a b j)
+keeps-joined w h s room a b j d i z =
+    rw (fresh-joined w h s room a b j, joined-names w h s room a b j)
     (keeps-drawn w h a b (names w h s) room (j .apart) (j .inner .0) (j .inner .1) d i z)

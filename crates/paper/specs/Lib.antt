@@ -4,3 +4,4 @@ pub mod Enclosure
 pub mod Drawing
 pub mod Joining
 pub mod Refusal
+pub mod Sitting

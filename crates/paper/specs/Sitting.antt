@@ -1,0 +1,37 @@
+-- What is promised of joins (the paper, "A drawing, and joining in it", and the third demand).
+--   Joinable w h t a b == a and b are two different regions of the drawing t, neither the outside, that share a line
+--   Sitting w h t u    == joins, one after another, lead from the tables t to the tables u
+--   Away t a b p       == no level 3 curve of t that the join of a and b removes has an end at the point p
+--   Untouched t a b d  == neither end of the level 3 curve of dart d touches a removed curve
+--   Keeps t u d        == dart d and its other have the same next and other in t and in u
+use mathlib.Core.Path.{_≡_}
+use mathlib.Core.Bool.{true}
+use mathlib.Core.Logic.{_≢_}
+use Prim.Native.Nat.{ℕ}
+use Rattle.plane.specs.Dart.{point}
+use Rattle.paper.specs.Drawing.{Tables}
+use Rattle.paper.specs.Joining.{at, on, shared, joined}
+use Rattle.paper.specs.Refusal.{used, adjoin}
+
+pub record Joinable (w h : ℕ) (t : Tables) (a b : ℕ) : Type 0 where
+  pub inner : (a ≢ 0) × (b ≢ 0)
+  pub apart : a ≢ b
+  pub regions : (used t a ≡ true) × (used t b ≡ true)
+  pub neighbours : adjoin w h t a b ≡ true
+
+pub data Sitting (w h : ℕ) : Tables → Tables → Type 0 where
+  done : {t : Tables} → Sitting w h t t
+  then : {t u : Tables} (a b : ℕ) → Joinable w h t a b → Sitting w h (joined w h t a b) u → Sitting w h t u
+
+abbrev pub Away : Tables → ℕ → ℕ → ℕ → Type 0
+Away t a b p = (g : ℕ) → on (t .next3) g ≡ true → shared (t .side1) (at (t .other3)) a b g ≡ true → point g ≢ p
+
+pub record Untouched (t : Tables) (a b d : ℕ) : Type 0 where
+  pub near : Away t a b (point d)
+  pub far : Away t a b (point (at (t .other3) d))
+
+pub record Keeps (t u : Tables) (d : ℕ) : Type 0 where
+  pub next : at (u .next3) d ≡ at (t .next3) d
+  pub other : at (u .other3) d ≡ at (t .other3) d
+  pub far-next : at (u .next3) (at (t .other3) d) ≡ at (t .next3) (at (t .other3) d)
+  pub far-other : at (u .other3) (at (t .other3) d) ≡ d
