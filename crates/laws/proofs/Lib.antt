@@ -15,5 +15,6 @@ pub mod Link
 pub mod Splice
 pub mod Loop
 pub mod Curve
+pub mod Parity
 pub mod Exchange
 pub mod Anchor

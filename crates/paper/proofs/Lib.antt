@@ -3,6 +3,7 @@ pub mod Between
 pub mod Cells
 pub mod Closed
 pub mod Curve
+pub mod Depth
 pub mod Drawn
 pub mod Enclosure
 pub mod Fewer
@@ -19,9 +20,11 @@ pub mod Neighbour
 pub mod Next
 pub mod Outcome
 pub mod Pair
+pub mod Parity
 pub mod Piece
 pub mod Pruned
 pub mod Removed
+pub mod Round
 pub mod Share
 pub mod Sheet
 pub mod Smoothed
