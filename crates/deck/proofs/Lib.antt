@@ -1,0 +1,11 @@
+pub mod Answers
+pub mod Cards
+pub mod Every
+pub mod Filling
+pub mod Frames
+pub mod One
+pub mod Parts
+pub mod Punching
+pub mod Rows
+pub mod Sizes
+pub mod Table
