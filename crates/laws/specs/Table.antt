@@ -4,7 +4,6 @@
 --   number b      == 1 for true, 0 for false
 --   count n f     == how many numbers below n pass the test f
 --   some n f      == some number below n passes the test f
---   first b x y   == x where b holds, else y
 use mathlib.Core.Bool.{Bool, false, cond, _||_}
 use mathlib.Core.List.{List, [], _∷_}
 use Prim.Native.Nat.{ℕ, zero, suc, _+_}
