@@ -4,7 +4,7 @@ pub mod Count
 pub mod Darts
 mod Entry
 pub mod Limit
-mod Mask
+pub mod Mask
 pub mod Points
 pub mod Reach
 pub mod Turns

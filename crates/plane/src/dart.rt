@@ -21,7 +21,7 @@ fn less(a: u16, b: u16) -> u16
 }
 
 // The point one line away from a point.
-fn beside(point: u16, width: u16, direction: u16) -> u16
+pub fn beside(point: u16, width: u16, direction: u16) -> u16
     requires { ⌜ point + (width + 1) < 65536 ⌝ }
     ensures { λ r. ⌜ r ≡ beside width point direction ⌝ }
 {

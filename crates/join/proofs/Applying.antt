@@ -1,0 +1,91 @@
+-- Joining, step by step.
+--   dropped ..      == the links after steps 1 and 2
+use mathlib.Core.Path.{_≡_, _∙_, ap}
+use mathlib.Core.Bool.{Bool, true, false, cond}
+use mathlib.Core.List.{List, [], _∷_}
+use Prim.Native.Nat.{ℕ, _+_, _*_, _≤_, _<_}
+use native.Mathlib.Omega.{arith}
+use lib.ListN.{length, replicate}
+use Rattle.laws.specs.Table.{table}
+use Rattle.laws.specs.Least.{lower}
+use Rattle.plane.specs.Dart.{mark, points, slots, reversal}
+use Rattle.paper.specs.Level.{tops, marked}
+use Rattle.paper.specs.Enclosure.{parent, parents}
+use Rattle.paper.specs.Joining.{Links, at, on, shared, removed, pruned, smoothed, closes, closed, joined}
+use Rattle.paper.specs.Refusal.{cleared}
+use Rattle.paper.proofs.Piece.{tops-le}
+use Rattle.join.specs.Links.{links}
+use Rattle.join.specs.Taken.{flagged, flags}
+use Rattle.join.specs.Tops.{Rising}
+use Rattle.join.specs.Apply.{dropped, tables}
+use Rattle.join.proofs.Fewer.{dropped-fewer, on-lowered}
+use Rattle.join.proofs.Taking.{flagged-flags, shared-past}
+
+-- Step 1.
+pub shared-links : (w h a b m : ℕ) (s n o t : List ℕ) (k : Links) → a < mark → b < mark → length s ≡ slots w h
+    → m ≡ slots w h → t ≡ flags m (shared s (at o) a b) → k ≡ removed w h (links n o) (flagged t)
+    → k ≡ removed w h (links n o) (shared s (at o) a b)
+shared-links w h a b m s n o t k p q l r e f =
+    let past : (d : ℕ) → m ≤ d → shared s (at o) a b d ≡ false =
+    λ d h. shared-past s (at o) a b (λ z. omega arith) (λ z. omega arith) d (omega arith) in
+    f ∙ ap (removed w h (links n o)) (ap flagged e ∙ flagged-flags m (shared s (at o) a b) past)
+
+-- Step 2 after it.
+pub drop-links : (w h a b : ℕ) (s n o : List ℕ) (k j : Links) → k ≡ removed w h (links n o) (shared s (at o) a b)
+    → j ≡ pruned w h k → j ≡ dropped w h s a b (links n o)
+unfolding dropped
+drop-links w h a b s n o k j f g = g ∙ ap (pruned w h) f
+
+-- at level 1, where the others are the reversals
+pub drop-plain : (w h a b : ℕ) (s n o u v r : List ℕ) → o ≡ r → links u v ≡ dropped w h s a b (links n o)
+    → u ≡ dropped w h s a b (links n r) .next
+drop-plain w h a b s n o u v r e f = ap (λ l. l .next) (rw e at f)
+
+-- Steps 3 to 5.
+pub tops-rising : (w h : ℕ) (o : ℕ → Bool) (t : List ℕ) → t ≡ tops w h o → Rising t
+tops-rising w h o t e = rw e (record { up = tops-le w h o })
+
+module _ (w h : ℕ) (o : ℕ → Bool) (t : List ℕ) (e : t ≡ tops w h o) where
+  pub settle-links : (q : ℕ → Bool) (l k j : Links) → k ≡ smoothed w h l → j ≡ closes q t (points w h) 0 k
+      → j ≡ closes q (tops w h o) (points w h) 0 (smoothed w h l)
+  settle-links q l k j f g = g ∙ rw (e, f)
+
+  pub settle-parents : (s p : List ℕ) → p ≡ table (w * h + 1) (parent w o (at s) t) → p ≡ parents w h o (at s)
+  unfolding parents
+  settle-parents s p f = f ∙ rw e
+
+-- All five steps, from the tables n, s, m, o, p to the tables n₁, s₁, m₁, o₁, p₁; k has the links after steps 1 and 2.
+module _ (w h a b : ℕ) (n s m o p : List ℕ) (u : a < mark) (v : b < mark) (long : length s ≡ slots w h)
+    (sided : (d : ℕ) → on n d ≡ true → on s d ≡ true) (n₁ s₁ m₁ o₁ p₁ : List ℕ) (k : Links)
+    (plain : n₁ ≡ dropped w h s a b (links n (table (slots w h) (reversal w))) .next)
+    (drop : k ≡ dropped w h s a b (links m o))
+    (lowered : s₁ ≡ table (length s) (λ d. cond (on n₁ d) (lower a b (at s d)) mark))
+    (settled : links m₁ o₁ ≡ closes (on n₁) (tops w h (on s₁)) (points w h) 0 (smoothed w h k))
+    (found : p₁ ≡ parents w h (on s₁) (at s₁)) where
+  sides : s₁ ≡ marked w h (on n₁) (λ d. lower a b (at s d))
+  unfolding marked
+  sides = lowered ∙ ap (λ z. table z (λ d. cond (on n₁ d) (lower a b (at s d)) mark)) long
+
+  -- the sides are on the lines that remain
+  same-lines : on s₁ ≡ on n₁
+  same-lines =
+      rw sides
+      (on-lowered w h a b s n₁ u v long
+      (λ d q. sided d (dropped-fewer w h s a b (links n (table (slots w h) (reversal w))) d (rw plain at q))))
+
+  pub all-steps : tables n₁ s₁ m₁ o₁ p₁ ≡ joined w h (tables n s m o p) a b
+  unfolding joined dropped closed
+  all-steps = rw (← plain, ← sides, ← drop, ← (rw same-lines at settled), ← found)
+
+-- The work tables.
+pub clear-all : (a b c d a₁ b₁ c₁ d₁ : List ℕ) → a₁ ≡ replicate (length a) 0 → b₁ ≡ replicate (length b) 0
+    → c₁ ≡ replicate (length c) 0 → d₁ ≡ replicate (length d) 0
+    → (a₁ ∷ b₁ ∷ c₁ ∷ d₁ ∷ []) ≡ cleared (a ∷ b ∷ c ∷ d ∷ [])
+unfolding cleared
+clear-all a b c d a₁ b₁ c₁ d₁ e f g h = rw (e, f, g, h)
+
+-- work tables of the same lengths are cleared to the same
+pub cleared-same : (a b c d a₁ b₁ c₁ d₁ : List ℕ) → length a₁ ≡ length a → length b₁ ≡ length b
+    → length c₁ ≡ length c → length d₁ ≡ length d → cleared (a₁ ∷ b₁ ∷ c₁ ∷ d₁ ∷ []) ≡ cleared (a ∷ b ∷ c ∷ d ∷ [])
+unfolding cleared
+cleared-same a b c d a₁ b₁ c₁ d₁ e f g h = rw (e, f, g, h)

@@ -1,0 +1,51 @@
+-- A drawing is ready for the joining of two regions that it has.
+use mathlib.Core.Path.{_≡_, _∙_}
+use mathlib.Core.Bool.{true, _&&_}
+use mathlib.Core.List.{List, [], _∷_}
+use Prim.Native.Nat.{ℕ, _+_, _*_, _<_}
+use native.Mathlib.Omega.{arith}
+use Rattle.laws.proofs.Test.{and-left, and-right}
+use Rattle.plane.specs.Size.{within}
+use Rattle.plane.specs.Dart.{mark, slots}
+use Rattle.paper.specs.Name.{names}
+use Rattle.paper.specs.Level.{side, border, next, plain, level}
+use Rattle.paper.specs.Drawing.{Tables, drawn, drawing, Drawn}
+use Rattle.paper.specs.Joining.{on}
+use Rattle.paper.specs.Refusal.{sized, stated, used}
+use Rattle.paper.proofs.Sheet.{border-below}
+use Rattle.paper.proofs.Marks.{on-marked, cells-slots, within-fits, names-side-small}
+use Rattle.join.specs.Apply.{Ready}
+use Rattle.join.proofs.Fewer.{marked-held, on-below}
+use Rattle.join.proofs.Sizes.{sized-first}
+
+-- every line of a drawing has its sides
+drawing-sided : (w h : ℕ) (s : List ℕ) → within w h ≡ true → (d : ℕ) → on (drawing w h s .next1) d ≡ true
+    → on (drawing w h s .side1) d ≡ true
+unfolding drawing drawn level plain
+drawing-sided w h s e d q =
+    let n = names w h s in
+    on-marked w h (border w h n) (side w h n) (border-below w h n)
+    (λ d _. names-side-small w h s (within-fits w h e) d) d
+    ∙ marked-held w h (border w h n) (next w (border w h n)) d q
+
+-- a name that is in use is below the mark
+used-small : (w h : ℕ) (t : Tables) (ws : List (List ℕ)) (a : ℕ) → within w h ≡ true → stated w h t ws ≡ true
+    → used t a ≡ true → a < mark
+unfolding stated used
+used-small w h t ws a e f u =
+    let k = slots w h in
+    let four = sized k (t .next1 ∷ t .side1 ∷ t .next3 ∷ t .other3 ∷ []) in
+    let one = sized (w * h + 1) (t .parent ∷ []) in
+    let l = sized-first (w * h + 1) (t .parent) [] (and-right four one (and-left (four && one) (sized k ws) f)) in
+    omega (arith, on-below (t .parent) a u, cells-slots w h, within-fits w h e)
+
+pub drawn-ready : (w h : ℕ) (t : Tables) (ws : List (List ℕ)) (a b : ℕ) → within w h ≡ true → stated w h t ws ≡ true
+    → Drawn w h t → used t a ≡ true → used t b ≡ true → Ready w h t ws a b
+drawn-ready w h t ws a b e f g u v =
+    record {
+      size = e;
+      sizes = f;
+      first = used-small w h t ws a e f u;
+      second = used-small w h t ws b e f v;
+      sided = rw (← (g .same)) (drawing-sided w h (g .labels) e);
+    }

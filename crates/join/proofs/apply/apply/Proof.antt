@@ -1,0 +1,189 @@
+use mathlib.Core.Path.{sym, _∙_}
+use Prim.Native.Nat.{_+_, _*_, _≤_}
+use native.Mathlib.Omega.{arith}
+use lib.ListN.{length}
+use lib.Seq.{length-take-le, length-front}
+use Rattle.plane.specs.Dart.{points, slots}
+use Rattle.plane.proofs.Limit.{within-limits}
+use Rattle.region.proofs.Fit.{points-fit}
+use Rattle.join.proofs.Applying.{all-steps, cleared-same}
+use Rattle.join.proofs.Sizes.{stated-sizes}
+use Rattle.join.proofs.apply.apply.Statement.{statement}
+use Rattle.join.proofs.apply.apply.Tie as tie
+
+-- From each call back to the call before it, and to the start.
+abbrev start : tie.After-drop-plain-lines → tie.Start
+start c =
+    c .before .before .before .before .before .before .before .before .before .before .before .before
+    .before .before .before
+
+abbrev plain : tie.After-drop-lines → tie.After-drop-plain-lines
+plain c =
+    c .before .before .before .before .before .before .before .before .before .before .before .before
+    .before .before
+
+abbrev lined : tie.After-lower-sides → tie.After-drop-lines
+lined c = c .before .before .before .before .before .before .before .before .before .before .before
+
+abbrev lowered : tie.After-settle → tie.After-lower-sides
+lowered c = c .before .before .before .before .before .before .before .before .before
+
+abbrev settled : tie.After-clear-work → tie.After-settle
+settled c =
+    c .before .before .before .before .before .before .before .before .before .before .before .before
+    .before
+
+abbrev cleared : tie.After-slice-known26 → tie.After-clear-work
+cleared c = c .before .before .before .before .before .before .before .before
+
+-- A work table has room for the tops.
+work-room : (c : tie.Start) → (c .args .width + 1) * (c .args .height + 1) ≤ length (c .args .work-d .now)
+unfolding slots points
+work-room c = let z = stated-sizes _ _ _ _ _ _ _ _ _ _ _ (c .pre .sizes) in omega (arith, z .work-d)
+
+drop-plain-lines-requires : tie.Need-drop-plain-lines-requires
+drop-plain-lines-requires c κs =
+    let b = c .before .before .before .before .before .before .before .before .before .before .before .before in
+    let q = b .before .before .pre in
+    let z = stated-sizes _ _ _ _ _ _ _ _ _ _ _ (q .sizes) in
+    (q .size, q .first, q .second, z .side1, z .next1, z .work-a, z .work-b, z .work-c)
+
+drop-lines-requires : tie.Need-drop-lines-requires
+drop-lines-requires c κs =
+    let b = c .before .before .before .before .before .before .before .before .before .before .before .before .before in
+    let q = start b .pre in
+    let z = stated-sizes _ _ _ _ _ _ _ _ _ _ _ (q .sizes) in
+    let k = b .drop-plain-lines .kept .1 .1 .1 .1 .1 .1 .1 in
+    (q .size, q .first, q .second, z .side1, z .next3, z .other3, k .0 ∙ z .work-b, k .1 .0 ∙ z .work-c)
+
+lower-sides-requires : tie.Need-lower-sides-requires
+lower-sides-requires c κs =
+    let b = plain (c .before .before .before .before .before .before .before .before .before .before) in
+    let z = stated-sizes _ _ _ _ _ _ _ _ _ _ _ (start b .pre .sizes) in
+    b .drop-plain-lines .kept .1 .1 .1 .1 .1 .0 ∙ z .next1 ∙ sym (z .side1)
+
+add-n : tie.Need-add-n
+add-n c = omega (arith, within-limits _ _ (start (plain (lined (c .before .before))) .pre .size))
+
+add-n-2 : tie.Need-add-n-2
+add-n-2 c = omega (arith, within-limits _ _ (start (plain (lined (c .before .before))) .pre .size))
+
+mul-n : tie.Need-mul-n
+unfolding points
+mul-n c = omega (arith, points-fit _ _ (start (plain (lined (c .before .before))) .pre .size))
+
+cast-n : tie.Need-cast-n
+unfolding points
+cast-n c = omega (arith, points-fit _ _ (start (plain (lined (c .before .before))) .pre .size))
+
+slice-relend-prefix-settle : tie.Need-slice-relend-prefix-settle
+slice-relend-prefix-settle c =
+    let b = c .before .before .before .before .before .before .before in
+    work-room (start (plain (lined b)))
+
+slice-aggregate-settle : tie.Need-slice-aggregate-settle
+slice-aggregate-settle c =
+    let b = c .before .before .before .before .before .before .before .before in
+    sym (length-take-le _ _ (work-room (start (plain (lined b)))))
+
+settle-requires : tie.Need-settle-requires
+unfolding points
+settle-requires c κs =
+    let b = c .before .before .before .before .before .before .before .before in
+    let a = start (plain (lined b)) in
+    let z = stated-sizes _ _ _ _ _ _ _ _ _ _ _ (a .pre .sizes) in
+    let t = length-take-le _ _ (work-room a) in
+    (a .pre .size, b .lower-sides .kept .1 .1 .1 .0 ∙ z .side1, z .parent, t)
+
+clear-work-requires : tie.Need-clear-work-requires
+clear-work-requires c κs = tt
+
+-- Each table keeps its length.
+same-length : tie.Need-same-length
+same-length c = plain (lined (lowered (settled (cleared c)))) .drop-plain-lines .kept .1 .1 .1 .1 .1 .0
+
+same-length-2 : tie.Need-same-length-2
+same-length-2 c = lowered (settled (cleared c)) .lower-sides .kept .1 .1 .1 .0
+
+same-length-3 : tie.Need-same-length-3
+same-length-3 c =
+    let s = settled (cleared c) in
+    s .settle .kept .1 .1 .1 .1 .0 ∙ lined (lowered s) .drop-lines .kept .1 .1 .1 .1 .1 .0
+
+same-length-4 : tie.Need-same-length-4
+same-length-4 c =
+    let s = settled (cleared c) in
+    s .settle .kept .1 .1 .1 .1 .1 .0 ∙ lined (lowered s) .drop-lines .kept .1 .1 .1 .1 .1 .1 .0
+
+same-length-5 : tie.Need-same-length-5
+same-length-5 c = settled (cleared c) .settle .kept .1 .1 .1 .1 .1 .1 .0
+
+same-length-6 : tie.Need-same-length-6
+same-length-6 c =
+    let b = plain (lined (lowered (settled (cleared c)))) in
+    cleared c .clear-work .kept .0 ∙ b .drop-plain-lines .kept .1 .1 .1 .1 .1 .1 .0
+
+same-length-7 : tie.Need-same-length-7
+same-length-7 c =
+    let l = lined (lowered (settled (cleared c))) in
+    cleared c .clear-work .kept .1 .0 ∙ l .drop-lines .kept .1 .1 .1 .1 .1 .1 .1 .0
+    ∙ plain l .drop-plain-lines .kept .1 .1 .1 .1 .1 .1 .1 .0
+
+same-length-8 : tie.Need-same-length-8
+same-length-8 c =
+    let l = lined (lowered (settled (cleared c))) in
+    cleared c .clear-work .kept .1 .1 .0 ∙ l .drop-lines .kept .1 .1 .1 .1 .1 .1 .1 .1 .0
+    ∙ plain l .drop-plain-lines .kept .1 .1 .1 .1 .1 .1 .1 .1 .0
+
+same-length-9 : tie.Need-same-length-9
+same-length-9 c =
+    let s = settled (cleared c) in
+    let a = start (plain (lined (lowered s))) .args in
+    let top = s .settle .last .1 .1 .1 .1 .1 .1 .1 .0 in
+    cleared c .clear-work .kept .1 .1 .1 .0
+    ∙ length-front (a .work-d .now) top ((a .width + 1) * (a .height + 1)) (s .settle .kept .1 .1 .1 .1 .1 .1 .1 .0)
+
+returns : tie.Need-returns
+returns c =
+    let s = settled (cleared c) in
+    let l = lined (lowered s) in
+    let a = start (plain l) in
+    let z = stated-sizes _ _ _ _ _ _ _ _ _ _ _ (a .pre .sizes) in
+    let d = plain l .drop-plain-lines in
+    let e = l .drop-lines in
+    let f = d .kept .1 .1 .1 .1 .1 .1 in
+    let g = e .kept .1 .1 .1 .1 .1 .1 .1 in
+    let top = s .settle .last .1 .1 .1 .1 .1 .1 .1 .0 in (
+      all-steps _ _ _ _ _ _ _ _ _ (a .pre .first) (a .pre .second) (z .side1) (a .pre .sided) _ _ _ _ _ _ (d .ensures)
+          (e .ensures) (lowered s .lower-sides .ensures) (s .settle .ensures .0) (s .settle .ensures .1),
+      cleared c .clear-work .ensures
+          ∙ cleared-same _ _ _ _ _ _ _ _ (f .0) (g .0 ∙ f .1 .0) (g .1 .0 ∙ f .1 .1 .0)
+          (length-front (a .args .work-d .now) top ((a .args .width + 1) * (a .args .height + 1))
+          (s .settle .kept .1 .1 .1 .1 .1 .1 .1 .0)),
+    )
+
+pub apply-spec : {M : Type 1} → statement M
+apply-spec =
+    tie.close
+    (tie.spec
+    drop-plain-lines-requires
+    drop-lines-requires
+    lower-sides-requires
+    add-n
+    add-n-2
+    mul-n
+    cast-n
+    slice-relend-prefix-settle
+    slice-aggregate-settle
+    settle-requires
+    clear-work-requires
+    same-length
+    same-length-2
+    same-length-3
+    same-length-4
+    same-length-5
+    same-length-6
+    same-length-7
+    same-length-8
+    same-length-9
+    returns)

@@ -1,0 +1,172 @@
+use crate::back;
+use crate::close;
+use crate::entry;
+use crate::parent;
+use crate::prune;
+use crate::shared;
+use crate::side;
+use crate::smooth;
+use region::points;
+ghost use mathlib.Core.Path.{_≡_};
+ghost use mathlib.Core.Bool.{true};
+ghost use mathlib.Core.List.{[], _∷_};
+ghost use Prim.Native.Nat.{_+_, _*_, _<_};
+ghost use lib.ListN.{length, replicate};
+ghost use Rattle.laws.specs.Table.{table};
+ghost use Rattle.plane.specs.Size.{within};
+ghost use Rattle.plane.specs.Dart.{mark, points, slots, reversal};
+ghost use Rattle.paper.specs.Level.{tops};
+ghost use Rattle.paper.specs.Enclosure.{parents};
+ghost use Rattle.paper.specs.Joining.{at, on, smoothed, closes, joined};
+ghost use Rattle.paper.specs.Refusal.{cleared};
+ghost use Rattle.join.specs.Links.{links};
+ghost use Rattle.join.specs.Apply.{dropped, tables, Ready};
+
+// Steps 1 and 2 at a level: the darts with the sides a and b go, then hanging ends. Taken and leaps are work.
+fn drop_lines(
+    width: u16,
+    height: u16,
+    a: u16,
+    b: u16,
+    side: &[u16],
+    next: &mut [u16],
+    other: &mut [u16],
+    taken: &mut [u16],
+    leaps: &mut [u16],
+)
+    requires { ⌜
+        (within width height ≡ true) × (a < mark) × (b < mark) × (length (now side) ≡ slots width height) ×
+        (length (now next) ≡ slots width height) × (length (now other) ≡ slots width height) ×
+        (length (now taken) ≡ slots width height) × (length (now leaps) ≡ slots width height)
+        ⌝ }
+    ensures { λ _. ⌜
+        links (now (next .exit)) (now (other .exit)) ≡
+        dropped width height (now (side .entry)) a b (links (now (next .entry)) (now (other .entry)))
+        ⌝ }
+{
+    shared::remove_shared(width, height, side, a, b, next, other, taken, leaps);
+    prune::prune(width, height, next, other, taken, leaps);
+}
+
+// Steps 1 and 2 at level 1, where the other of a dart is its reversal. Back, taken and leaps are work.
+fn drop_plain_lines(
+    width: u16,
+    height: u16,
+    a: u16,
+    b: u16,
+    side: &[u16],
+    next: &mut [u16],
+    back: &mut [u16],
+    taken: &mut [u16],
+    leaps: &mut [u16],
+)
+    requires { ⌜
+        (within width height ≡ true) × (a < mark) × (b < mark) × (length (now side) ≡ slots width height) ×
+        (length (now next) ≡ slots width height) × (length (now back) ≡ slots width height) ×
+        (length (now taken) ≡ slots width height) × (length (now leaps) ≡ slots width height)
+        ⌝ }
+    ensures { λ _. ⌜
+        now (next .exit) ≡
+        dropped width height (now (side .entry)) a b
+        (links (now (next .entry)) (table (slots width height) (reversal width)))
+        .next
+        ⌝ }
+{
+    back::fill_reversals(width, height, back);
+    drop_lines(width, height, a, b, side, next, back, taken, leaps);
+}
+
+// Steps 3 to 5 from the lines that remain and their sides: points go, closed curves move to their anchors, parents are
+// found. Top is work.
+fn settle(
+    width: u16,
+    height: u16,
+    lines: &[u16],
+    side: &[u16],
+    next: &mut [u16],
+    other: &mut [u16],
+    parent: &mut [u16],
+    top: &mut [u16],
+)
+    requires { ⌜
+        (within width height ≡ true) × (length (now side) ≡ slots width height) ×
+        (length (now parent) ≡ width * height + 1) × (length (now top) ≡ points width height)
+        ⌝ }
+    ensures { λ _. ⌜
+        (links (now (next .exit)) (now (other .exit)) ≡
+        closes (on (now (lines .entry))) (tops width height (on (now (side .entry)))) (points width height) 0
+        (smoothed width height (links (now (next .entry)) (now (other .entry))))) ×
+        (now (parent .exit) ≡ parents width height (on (now (side .entry))) (at (now (side .entry))))
+        ⌝ }
+{
+    points::top_points(width, height, side, top);
+    smooth::smooth(width, height, next, other);
+    close::close(width, height, lines, top, next, other);
+    parent::find_parents(width, height, side, top, parent);
+}
+
+// The work tables are left with every entry 0.
+fn clear_work(work_a: &mut [u16], work_b: &mut [u16], work_c: &mut [u16], work_d: &mut [u16])
+    ensures { λ _. ⌜
+        (now («work_a» .exit) ∷ now («work_b» .exit) ∷ now («work_c» .exit) ∷ now («work_d» .exit) ∷ []) ≡
+        cleared
+        (now («work_a» .entry) ∷ now («work_b» .entry) ∷ now («work_c» .entry) ∷ now («work_d» .entry) ∷ [])
+        ⌝ }
+{
+    entry::clear(work_a);
+    entry::clear(work_b);
+    entry::clear(work_c);
+    entry::clear(work_d);
+}
+
+// Joining of the regions a and b by the removal rule, in the five tables of a drawing. The work tables are left with
+// every entry 0.
+pub fn apply(
+    width: u16,
+    height: u16,
+    a: u16,
+    b: u16,
+    next1: &mut [u16],
+    side1: &mut [u16],
+    next3: &mut [u16],
+    other3: &mut [u16],
+    parent: &mut [u16],
+    work_a: &mut [u16],
+    work_b: &mut [u16],
+    work_c: &mut [u16],
+    work_d: &mut [u16],
+)
+    requires { ⌜
+        Ready width height (tables (now next1) (now side1) (now next3) (now other3) (now parent))
+        (now «work_a» ∷ now «work_b» ∷ now «work_c» ∷ now «work_d» ∷ [])
+        a
+        b
+        ⌝ }
+    ensures { λ _. ⌜
+        (tables (now (next1 .exit)) (now (side1 .exit)) (now (next3 .exit)) (now (other3 .exit)) (now (parent .exit)) ≡
+        joined width height
+        (tables (now (next1 .entry)) (now (side1 .entry)) (now (next3 .entry)) (now (other3 .entry))
+        (now (parent .entry)))
+        a
+        b) ×
+        ((now («work_a» .exit) ∷ now («work_b» .exit) ∷ now («work_c» .exit) ∷ now («work_d» .exit) ∷ []) ≡
+        cleared
+        (now («work_a» .entry) ∷ now («work_b» .entry) ∷ now («work_c» .entry) ∷ now («work_d» .entry) ∷ []))
+        ⌝ }
+{
+    drop_plain_lines(width, height, a, b, side1, next1, work_a, work_b, work_c);
+    drop_lines(width, height, a, b, side1, next3, other3, work_b, work_c);
+    side::lower_sides(a, b, next1, side1);
+    let n = ((width + 1) * (height + 1)) as usize;
+    settle(
+        width,
+        height,
+        next1,
+        side1,
+        next3,
+        other3,
+        parent,
+        &mut work_d[..n],
+    );
+    clear_work(work_a, work_b, work_c, work_d);
+}

@@ -1,0 +1,270 @@
+use Prim.Native.Nat.{_+_, _*_}
+use denote.Ref.{now}
+use Rattle.level.proofs.Tables.{filled-tables, cleared-as}
+use lib.Seq.{length-take-le, length-front}
+use Rattle.level.proofs.Parts.{points-slots, frame-slots}
+use mathlib.Core.Path.{sym, _∙_}
+use Rattle.plane.specs.Dart.{points}
+use Rattle.region.proofs.Fit.{points-fit}
+use Rattle.plane.proofs.Limit.{within-limits}
+use native.Mathlib.Omega.{arith}
+use borrow.Author.Needs.{needs}
+use Rattle.level.proofs.draw.fill.Statement.{statement}
+use Rattle.level.proofs.draw.fill.Tie as tie
+
+add-points : tie.Need-add-points
+unfolding points
+add-points c =
+    omega (
+      arith,
+      within-limits _ _ (c .before .before .before .before .before .before .before .before .pre .0),
+      points-fit _ _ (c .before .before .before .before .before .before .before .before .pre .0),
+    )
+
+add-points-2 : tie.Need-add-points-2
+unfolding points
+add-points-2 c =
+    omega (
+      arith,
+      within-limits _ _ (c .before .before .before .before .before .before .before .before .pre .0),
+      points-fit _ _ (c .before .before .before .before .before .before .before .before .pre .0),
+    )
+
+mul-points : tie.Need-mul-points
+unfolding points
+mul-points c =
+    omega (
+      arith,
+      within-limits _ _ (c .before .before .before .before .before .before .before .before .pre .0),
+      points-fit _ _ (c .before .before .before .before .before .before .before .before .pre .0),
+    )
+
+cast-points : tie.Need-cast-points
+cast-points c = search needs
+
+add-framed : tie.Need-add-framed
+add-framed c = search needs
+
+add-framed-2 : tie.Need-add-framed-2
+add-framed-2 c = search needs
+
+name-cells-requires : tie.Need-name-cells-requires
+name-cells-requires c κs = search needs
+
+slice-reshare-prefix-levels : tie.Need-slice-reshare-prefix-levels
+unfolding points
+slice-reshare-prefix-levels c =
+    omega (
+      arith,
+      c .before .before .before .before .before .before .before .before .before .before .before .before
+          .before .before .before .pre .7,
+      c .before .before .before .before .name-cells .kept .1 .1 .1 .1 .0,
+      frame-slots
+          (c .before .before .before .before .before .before .before .before .before .before .before .before .before
+          .before .before .args .width) (c .before .before .before .before .before .before .before .before .before .before
+          .before .before .before .before .before .args .height),
+    )
+
+slice-aggregate-levels : tie.Need-slice-aggregate-levels
+unfolding points
+slice-aggregate-levels c =
+    sym (length-take-le _ _ (omega (
+      arith,
+      c .before .before .before .before .before .before .before .before .before
+          .before .before .before .before .before .before .before .pre .7,
+      c .before .before .before .before .before
+          .name-cells .kept .1 .1 .1 .1 .0,
+      frame-slots (c .before .before .before .before .before .before .before .before
+          .before .before .before .before .before .before .before .before .args .width) (c .before .before .before .before
+          .before .before .before .before .before .before .before .before .before .before .before .before .args
+          .height),
+    )))
+
+slice-relend-prefix-levels : tie.Need-slice-relend-prefix-levels
+unfolding points
+slice-relend-prefix-levels c =
+    omega (
+      arith,
+      c .before .before .before .before .before .before .before .before .before .before .before .before
+          .before .before .before .before .before .pre .8,
+      points-slots (c .before .before .before .before .before .before
+          .before .before .before .before .before .before .before .before .before .before .before .args .width) (c .before
+          .before .before .before .before .before .before .before .before .before .before .before .before .before .before
+          .before .before .args .height),
+    )
+
+slice-aggregate-levels-2 : tie.Need-slice-aggregate-levels-2
+unfolding points
+slice-aggregate-levels-2 c =
+    sym (length-take-le _ _ (omega (
+      arith,
+      c .before .before .before .before .before .before .before .before .before
+          .before .before .before .before .before .before .before .before .before .pre .8,
+      points-slots (c .before .before
+          .before .before .before .before .before .before .before .before .before .before .before .before .before .before
+          .before .before .args .width) (c .before .before .before .before .before .before .before .before .before .before
+          .before .before .before .before .before .before .before .before .args .height),
+    )))
+
+slice-relend-prefix-levels-2 : tie.Need-slice-relend-prefix-levels-2
+unfolding points
+slice-relend-prefix-levels-2 c =
+    omega (
+      arith,
+      c .before .before .before .before .before .before .before .before .before .before .before .before
+          .before .before .before .before .before .before .pre .9,
+      points-slots (c .before .before .before .before .before
+          .before .before .before .before .before .before .before .before .before .before .before .before .before .args
+          .width) (c .before .before .before .before .before .before .before .before .before .before .before .before
+          .before .before .before .before .before .before .args .height),
+    )
+
+slice-aggregate-levels-3 : tie.Need-slice-aggregate-levels-3
+unfolding points
+slice-aggregate-levels-3 c =
+    sym (length-take-le _ _ (omega (
+      arith,
+      c .before .before .before .before .before .before .before .before .before
+          .before .before .before .before .before .before .before .before .before .before .pre .9,
+      points-slots (c .before
+          .before .before .before .before .before .before .before .before .before .before .before .before .before .before
+          .before .before .before .before .args .width) (c .before .before .before .before .before .before .before .before
+          .before .before .before .before .before .before .before .before .before .before .before .args .height),
+    )))
+
+levels-requires : tie.Need-levels-requires
+unfolding points
+levels-requires c κs =
+    let s = c .before .before .before .before .before .before .before .before .before .before .before .before
+    .before .before .before .before .before .before .before .before .before .before .pre in (
+      s .0,
+      s .1,
+      length-take-le _ _ (omega (
+        arith,
+        c .before .before .before .before .before .before .before .before
+            .before .before .before .before .before .before .before .before .before .before .before .before .before .before
+            .pre .7,
+        c .before .before .before .before .before .before .before .before .before .before .before .name-cells
+            .kept .1 .1 .1 .1 .0,
+        frame-slots (c .before .before .before .before .before .before .before .before .before
+            .before .before .before .before .before .before .before .before .before .before .before .before .before .args
+            .width) (c .before .before .before .before .before .before .before .before .before .before .before .before
+            .before .before .before .before .before .before .before .before .before .before .args .height),
+      )),
+      c .before
+          .before .before .before .before .before .before .before .before .before .before .name-cells .kept .1 .1 .1 .0 ∙
+          s .6,
+      length-take-le _ _ (omega (
+        arith,
+        c .before .before .before .before .before .before .before .before
+            .before .before .before .before .before .before .before .before .before .before .before .before .before .before
+            .pre .8,
+        points-slots (c .before .before .before .before .before .before .before .before .before .before .before
+            .before .before .before .before .before .before .before .before .before .before .before .args .width) (c .before
+            .before .before .before .before .before .before .before .before .before .before .before .before .before .before
+            .before .before .before .before .before .before .before .args .height),
+      )),
+      length-take-le _ _ (omega (
+        arith,
+        c
+            .before .before .before .before .before .before .before .before .before .before .before .before .before .before
+            .before .before .before .before .before .before .before .before .pre .9,
+        points-slots (c .before .before .before
+            .before .before .before .before .before .before .before .before .before .before .before .before .before .before
+            .before .before .before .before .before .args .width) (c .before .before .before .before .before .before .before
+            .before .before .before .before .before .before .before .before .before .before .before .before .before .before
+            .before .args .height),
+      )),
+      s .3,
+      s .4,
+      s .5,
+    )
+
+clear-work-requires : tie.Need-clear-work-requires
+clear-work-requires c κs = search needs
+
+same-length : tie.Need-same-length
+same-length c = search needs
+
+same-length-2 : tie.Need-same-length-2
+same-length-2 c = search needs
+
+same-length-3 : tie.Need-same-length-3
+same-length-3 c = search needs
+
+same-length-4 : tie.Need-same-length-4
+same-length-4 c = search needs
+
+same-length-5 : tie.Need-same-length-5
+same-length-5 c = search needs
+
+same-length-6 : tie.Need-same-length-6
+same-length-6 c = search needs
+
+same-length-7 : tie.Need-same-length-7
+same-length-7 c = search needs
+
+returns : tie.Need-returns
+unfolding points
+returns c =
+    let s = c .before .before .before .before .before .before .before .before .before .before .before .before
+    .before .before .before .before .before .before .before .before .before .before .before .before .before .before
+    .before .before .before .before .before .before .before .before .before .before .before .before .before .before
+    .before .before .before .before .before .before .before .before in
+    let a = s .args in
+    let n = (a .width + 1) * (a .height + 1) in (
+      filled-tables (a .width) (a .height) (a .level) (now (a .sheet)) _ _ (s .pre .0) (c .before .before .before
+          .before .before .before .before .before .before .before .before .before .before .before .before .before .before
+          .before .before .before .before .before .before .before .before .before .before .before .before .before .before
+          .before .before .before .before .before .before .name-cells .ensures) (c .before .before .before .before .before
+          .before .before .before .before .before .before .before .before .before .before .before .before .before .before
+          .before .before .before .before .before .before .levels .ensures),
+      c .before .before .before .before .before
+          .before .before .before .clear-work .ensures ∙ cleared-as (a .a .now) (a .b .now) (a .c .now) (a .d .now) _ _ _
+          _ (c .before .before .before .before .before .before .before .before .before .before .before .before .before
+          .before .before .before .before .before .before .before .before .before .before .before .before .levels .kept .1
+          .1 .1 .1 .0 ∙ c .before .before .before .before .before .before .before .before .before .before .before .before
+          .before .before .before .before .before .before .before .before .before .before .before .before .before .before
+          .before .before .before .before .before .before .before .before .before .before .before .name-cells .kept .1 .1
+          .1 .0) (c .before .before .before .before .before .before .before .before .before .before .before .before
+          .before .before .before .before .before .before .before .before .before .before .before .before .before .before
+          .before .before .before .before .before .before .before .before .before .before .before .name-cells .kept .1 .1
+          .1 .1 .0) (length-front (a .c .now) (c .before .before .before .before .before .before .before .before .before
+          .before .before .before .before .before .before .before .before .before .before .before .before .before .before
+          .before .before .levels .last .1 .1 .1 .1 .1 .0) n (c .before .before .before .before .before .before .before
+          .before .before .before .before .before .before .before .before .before .before .before .before .before .before
+          .before .before .before .before .levels .kept .1 .1 .1 .1 .1 .0)) (length-front (a .d .now) (c .before .before
+          .before .before .before .before .before .before .before .before .before .before .before .before .before .before
+          .before .before .before .before .before .before .before .before .before .levels .last .1 .1 .1 .1 .1 .1 .0) n (c
+          .before .before .before .before .before .before .before .before .before .before .before .before .before .before
+          .before .before .before .before .before .before .before .before .before .before .before .levels .kept .1 .1 .1
+          .1 .1 .1 .0)),
+    )
+
+pub fill-spec : {M : Type 1} → statement M
+fill-spec =
+    tie.close
+    (tie.spec
+    add-points
+    add-points-2
+    mul-points
+    cast-points
+    add-framed
+    add-framed-2
+    name-cells-requires
+    slice-reshare-prefix-levels
+    slice-aggregate-levels
+    slice-relend-prefix-levels
+    slice-aggregate-levels-2
+    slice-relend-prefix-levels-2
+    slice-aggregate-levels-3
+    levels-requires
+    clear-work-requires
+    same-length
+    same-length-2
+    same-length-3
+    same-length-4
+    same-length-5
+    same-length-6
+    same-length-7
+    returns)

@@ -1,0 +1,5 @@
+pub mod Mask
+pub mod Line
+pub mod Keep
+pub mod Link
+pub mod Draw
