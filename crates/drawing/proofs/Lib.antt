@@ -1,14 +1,4 @@
 pub mod Part
 pub mod Whole
-pub mod Judged
-pub mod Refusing
 pub mod Stated
-pub mod Read
-pub mod Filled
-pub mod Half
-pub mod Corner
-pub mod Told
-pub mod Climb
-pub mod Tally
-pub mod Fall
-pub mod Accepted
+pub mod Refusing

@@ -1,7 +1,7 @@
 -- The stated lengths, tested one after the other.
 --   four n a b c d  == the four lengths are all n
 --   lengths w h ..  == the lengths of the five tables and of four work tables are the stated ones
-use mathlib.Core.Path.{_≡_, refl, sym, _∙_}
+use mathlib.Core.Path.{_≡_, refl}
 use mathlib.Core.Bool.{Bool, true, false, not, _&&_}
 use mathlib.Core.List.{List, [], _∷_}
 use mathlib.Core.Logic.{_≢_}

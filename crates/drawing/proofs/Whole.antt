@@ -1,5 +1,5 @@
 -- The parts of a drawing make the whole, for cells with the names n.
-use mathlib.Core.Path.{_≡_, refl, sym, ap, _∙_, fun-ext}
+use mathlib.Core.Path.{_≡_, ap, _∙_, fun-ext}
 use mathlib.Core.Bool.{Bool, true}
 use mathlib.Core.List.{List}
 use Prim.Native.Nat.{ℕ, _+_, _*_, _≤_, _<_}
@@ -8,7 +8,7 @@ use Rattle.laws.specs.Table.{table}
 use Rattle.plane.specs.Size.{within}
 use Rattle.plane.specs.Dart.{mark, points, slots}
 use Rattle.paper.specs.Name.{names}
-use Rattle.paper.specs.Level.{Level, side, border, next, along, plain, tops, kept3, among, level, marked}
+use Rattle.paper.specs.Level.{side, border, next, along, plain, tops, kept3, among, level, marked}
 use Rattle.paper.specs.Enclosure.{parent, parents}
 use Rattle.paper.specs.Drawing.{Tables, drawn, drawing}
 use Rattle.paper.specs.Joining.{at, on}
@@ -17,14 +17,15 @@ use Rattle.paper.proofs.Marks.{within-fits, on-marked, names-side-small}
 use Rattle.paper.proofs.Piece.{tops-le}
 use Rattle.paper.proofs.Joined.{parents-drawn}
 use Rattle.region.specs.Frame.{framed}
-use Rattle.level.specs.Mask.{masked}
-use Rattle.level.specs.Line.{nexts, sides}
-use Rattle.level.specs.Keep.{keeps}
-use Rattle.level.specs.Link.{keptAt, alongNext, alongOther}
-use Rattle.level.proofs.Paper.{drafted, masked-paper, nexts-paper, sides-paper, keeps-paper, alongNext-paper, alongOther-paper}
-use Rattle.drawing.specs.Tops.{Rising}
+use Rattle.lines.specs.Mask.{masked}
+use Rattle.lines.specs.Line.{nexts, sides}
+use Rattle.curves.specs.Keep.{keeps}
+use Rattle.curves.specs.Link.{keptAt, alongNext, alongOther}
+use Rattle.level.proofs.Paper.{masked-paper, nexts-paper, sides-paper, keeps-paper, alongNext-paper, alongOther-paper}
+use Rattle.enclosure.specs.Tops.{Rising}
 use Rattle.drawing.specs.Given.{tables}
-use Rattle.drawing.specs.Parts.{surround, Lined, Kept, Curved}
+use Rattle.drawing.specs.Parts.{Lined, Kept, Curved}
+use Rattle.region.specs.Frame.{surround}
 
 pub tables-path : (x s y o p : List ℕ) (t : Tables) → x ≡ t .next1 → s ≡ t .side1 → y ≡ t .next3 → o ≡ t .other3
     → p ≡ t .parent → tables x s y o p ≡ t

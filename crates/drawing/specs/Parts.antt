@@ -1,5 +1,4 @@
 -- What is drawn, part by part. A work table is used at its front.
---   surround w h    == the number of the names with the outside round them
 --   Lined ..        == level 1 is drawn from the names f with the outside round them: masks, next and side
 --   Kept ..         == the points that level 3 keeps are found, from the sides of level 1 and its masks: tops and kept points
 --   Curved ..       == level 3 is drawn from level 1 next and the kept points
@@ -16,13 +15,10 @@ use Rattle.paper.specs.Enclosure.{parent}
 use Rattle.paper.specs.Drawing.{Tables, recovered, alike}
 use Rattle.paper.specs.Joining.{at, on}
 use Rattle.region.specs.Frame.{framed}
-use Rattle.level.specs.Mask.{masked}
-use Rattle.level.specs.Line.{nexts, sides}
-use Rattle.level.specs.Keep.{keeps}
-use Rattle.level.specs.Link.{alongNext, alongOther}
-
-abbrev pub surround : ℕ → ℕ → ℕ
-surround w h = points w h + w + 2
+use Rattle.lines.specs.Mask.{masked}
+use Rattle.lines.specs.Line.{nexts, sides}
+use Rattle.curves.specs.Keep.{keeps}
+use Rattle.curves.specs.Link.{alongNext, alongOther}
 
 pub record Lined (w h : ℕ) (f m x s : List ℕ) : Type 0 where
   pub masks : take (points w h) m ≡ masked w h f

@@ -1,14 +1,13 @@
 use crate::lengths;
-use crate::parent;
-use level::entry;
-use level::keep;
-use level::line;
-use level::link;
-use level::mask;
+use curves::keep;
+use curves::link;
+use enclosure::parent;
+use lines::line;
+use lines::mask;
 use plane::size;
-use region::cells;
-use region::frame;
+use region::names;
 use region::points;
+use table::entry;
 ghost use mathlib.Core.Path.{_≡_};
 ghost use mathlib.Core.Bool.{true};
 ghost use Prim.Native.Nat.{_+_, _*_};
@@ -19,29 +18,13 @@ ghost use Rattle.plane.specs.Dart.{points, slots};
 ghost use Rattle.paper.specs.Name.{names};
 ghost use Rattle.paper.specs.Enclosure.{parent};
 ghost use Rattle.paper.specs.Joining.{at, on};
-ghost use Rattle.region.specs.Frame.{framed};
-ghost use Rattle.drawing.specs.Parts.{surround, Lined, Kept, Curved};
-ghost use Rattle.drawing.specs.Tops.{Rising};
+ghost use Rattle.drawing.specs.Parts.{Lined, Kept, Curved};
+ghost use Rattle.region.specs.Frame.{surround};
+ghost use Rattle.enclosure.specs.Tops.{Rising};
 ghost use Rattle.drawing.specs.Given.{tables, works};
 ghost use Rattle.paper.specs.Drawing.{drawing};
 ghost use Rattle.paper.specs.Refusal.{stated, cleared, five, mapped};
 ghost use Rattle.drawing.specs.Answer.{drawn};
-
-// The names of a sheet with the outside round them, at the front of a work table.
-pub fn name_cells(width: u16, height: u16, sheet: &[u16], first: &mut [u16], round: &mut [u16])
-    requires { ⌜
-        (within width height ≡ true) × (length (now sheet) ≡ width * height) × (length (now first) ≡ slots width height) ×
-        (length (now round) ≡ slots width height)
-        ⌝ }
-    ensures { λ _. ⌜
-        take (surround width height) (now (round .exit)) ≡ framed width height (names width height (now (sheet .entry)))
-        ⌝ }
-{
-    let cells = (width * height) as usize;
-    let around = ((width + 1) * (height + 1) + width + 2) as usize;
-    cells::first_cells(width, height, sheet, &mut first[..cells]);
-    frame::frame(width, height, &first[..cells], &mut round[..around]);
-}
 
 // Level 1 from these names: the masks of the points at the front of a work table, next and side.
 pub fn draw_lines(
@@ -131,19 +114,6 @@ pub fn draw_parents(width: u16, height: u16, side1: &[u16], top: &[u16], parents
     parent::find_parents(width, height, side1, &top[..n], parents);
 }
 
-// Four work tables cleared.
-pub fn clear(a: &mut [u16], b: &mut [u16], c: &mut [u16], d: &mut [u16])
-    ensures { λ _. ⌜
-        works (now (a .exit)) (now (b .exit)) (now (c .exit)) (now (d .exit)) ≡
-        cleared (works (now (a .entry)) (now (b .entry)) (now (c .entry)) (now (d .entry)))
-        ⌝ }
-{
-    entry::clear(a);
-    entry::clear(b);
-    entry::clear(c);
-    entry::clear(d);
-}
-
 // The five tables of a sheet. The work tables come out cleared.
 pub fn draw_all(
     width: u16,
@@ -172,12 +142,12 @@ pub fn draw_all(
         cleared (works (now (a .entry)) (now (b .entry)) (now (c .entry)) (now (d .entry))))
         ⌝ }
 {
-    name_cells(width, height, sheet, a, b);
+    names::name_cells(width, height, sheet, a, b);
     draw_lines(width, height, b, a, next1, side1);
     keep_points(width, height, side1, a, b, c);
     draw_curves(width, height, next1, c, next3, other3);
     draw_parents(width, height, side1, b, parents);
-    clear(a, b, c, d);
+    entry::clear_four(a, b, c, d);
 }
 
 // What the whole drawing answers: done, or what is refused.

@@ -1,7 +1,6 @@
 ghost use mathlib.Core.Path.{_≡_};
-ghost use mathlib.Core.Bool.{true, _&&_};
+ghost use mathlib.Core.Bool.{true};
 ghost use Prim.Native.Nat.{_+_, _*_};
-ghost use lib.Dec.{eqb};
 ghost use Rattle.plane.specs.Size.{within};
 ghost use Rattle.drawing.specs.Lengths.{four, lengths};
 

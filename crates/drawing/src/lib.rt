@@ -1,9 +1,3 @@
-// The whole drawing of a sheet: its five tables, whether five tables are a drawing, and what its parents tell.
-pub mod count;
+// The whole drawing of a sheet: its five tables.
 pub mod draw;
-pub mod enclosure;
-pub mod entry;
-pub mod judge;
-pub mod labels;
 pub mod lengths;
-pub mod parent;

@@ -18,7 +18,7 @@ use Rattle.plane.proofs.Darts.{point-dart, reversal-dart, place, place-below}
 use Rattle.paper.specs.Enclosure.{first, parent}
 use Rattle.paper.specs.Joining.{at, on}
 use Rattle.paper.proofs.First.{every-cell, first-cell}
-use Rattle.region.proofs.Column.{column-on, column-back, row-on, row-down}
+use Rattle.laws.proofs.Column.{column-on, column-back, row-on, row-down}
 use Rattle.join.proofs.Entries.{on-entry}
 use Rattle.join.proofs.Half.{Half, half-more, half-all}
 

@@ -11,7 +11,7 @@ use lib.Seq.{ext-getD, getD-set-other}
 use Rattle.laws.specs.Table.{table}
 use Rattle.laws.proofs.Table.{length-table, getD-table}
 use Rattle.paper.specs.Joining.{at}
-use Rattle.region.proofs.Label.{set-cases}
+use Rattle.table.proofs.Entries.{set-cases}
 use Rattle.join.proofs.Entries.{at-inside}
 
 pub record Half (f : ℕ → ℕ) (i : ℕ) (s t : List ℕ) : Type 0 where

@@ -7,7 +7,7 @@ ghost use mathlib.Core.List.{List};
 ghost use Prim.Native.Nat.{ℕ, _<_};
 ghost use Rattle.plane.specs.Size.{within};
 ghost use Rattle.plane.specs.Dart.{mark, dart};
-ghost use Rattle.paper.specs.Joining.{at, spliced, smooth, smoothed};
+ghost use Rattle.paper.specs.Joining.{spliced, smooth, smoothed};
 ghost use Rattle.join.specs.Links.{links, splice};
 
 // Darts u and v go; the next of their others x and y become those of v and u.

@@ -18,3 +18,4 @@ pub mod Curve
 pub mod Parity
 pub mod Exchange
 pub mod Anchor
+pub mod Column

@@ -1,10 +1,3 @@
-pub mod Entries
-pub mod Filled
-pub mod Flags
 pub mod Paper
-pub mod Pointing
-pub mod Running
-pub mod Ruling
 pub mod Refused
 pub mod Tables
-pub mod Parts

@@ -29,10 +29,10 @@ use Rattle.paper.proofs.Piece.{length-tops}
 use Rattle.paper.proofs.Marks.{length-marked, at-held, on-marked, marked-same, marked-agree, names-side-small, next-stays, last-stays, lines-inside, along-on, next-small, along-next-small}
 use Rattle.region.specs.Frame.{framed}
 use Rattle.region.proofs.Surround.{cells-framed}
-use Rattle.level.specs.Mask.{around, masked, ruled}
-use Rattle.level.specs.Line.{lined, onward, nexts, others, beheld, sides}
-use Rattle.level.specs.Keep.{kindAt, large, bends, stands, anchored, keeps}
-use Rattle.level.specs.Link.{ahead, keptAt, starts, lastOf, back, alongNext, alongOther, alongSide}
+use Rattle.lines.specs.Mask.{around, masked, ruled}
+use Rattle.lines.specs.Line.{lined, onward, nexts, others, beheld, sides}
+use Rattle.curves.specs.Keep.{kindAt, large, bends, stands, anchored, keeps}
+use Rattle.curves.specs.Link.{ahead, keptAt, starts, lastOf, back, alongNext, alongOther, alongSide}
 use Rattle.level.specs.Draw.{plainTables, alongTables, tablesOf}
 
 abbrev pub drafted : ℕ → ℕ → (ℕ → Bool) → List ℕ

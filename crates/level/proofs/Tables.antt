@@ -4,36 +4,23 @@ use mathlib.Core.Path.{_≡_, ap, _∙_}
 use mathlib.Core.Bool.{true}
 use mathlib.Core.List.{List, [], _∷_}
 use Prim.Native.Nat.{ℕ}
-use lib.ListN.{length, getD, replicate}
+use lib.ListN.{getD}
 use Rattle.plane.specs.Size.{within}
 use Rattle.paper.specs.Name.{names}
 use Rattle.paper.specs.Level.{tops}
 use Rattle.paper.specs.Joining.{on}
-use Rattle.paper.specs.Refusal.{cleared, levelTables}
+use Rattle.paper.specs.Refusal.{levelTables}
 use Rattle.paper.proofs.Marks.{within-fits}
 use Rattle.region.specs.Frame.{framed}
-use Rattle.level.specs.Mask.{masked, ruled}
-use Rattle.level.specs.Line.{nexts, others, sides}
-use Rattle.level.specs.Keep.{bends, keeps}
-use Rattle.level.specs.Link.{alongNext, alongOther, alongSide}
+use Rattle.lines.specs.Mask.{masked, ruled}
+use Rattle.lines.specs.Line.{nexts, others, sides}
+use Rattle.curves.specs.Keep.{bends, keeps}
+use Rattle.curves.specs.Link.{alongNext, alongOther, alongSide}
 use Rattle.level.specs.Draw.{plainTables, alongTables, tablesOf}
 use Rattle.level.proofs.Paper.{levelTables-paper}
 
 pub three : (a b c x y z : List ℕ) → a ≡ x → b ≡ y → c ≡ z → _≡_ {A = List (List ℕ)} (a ∷ b ∷ c ∷ []) (x ∷ y ∷ z ∷ [])
 three a b c x y z p q r = λ i. p i ∷ q i ∷ r i ∷ []
-
-pub cleared-four : (a b c d x y z w : List ℕ) → x ≡ replicate (length a) 0 → y ≡ replicate (length b) 0
-    → z ≡ replicate (length c) 0 → w ≡ replicate (length d) 0
-    → _≡_ {A = List (List ℕ)} (x ∷ y ∷ z ∷ w ∷ []) (cleared (a ∷ b ∷ c ∷ d ∷ []))
-unfolding cleared
-cleared-four a b c d x y z w p q r s = λ i. p i ∷ q i ∷ r i ∷ s i ∷ []
-
--- tables of the same lengths are cleared alike
-pub cleared-as : (a b c d x y z w : List ℕ) → length x ≡ length a → length y ≡ length b → length z ≡ length c → length w ≡ length d
-    → cleared (x ∷ y ∷ z ∷ w ∷ []) ≡ cleared (a ∷ b ∷ c ∷ d ∷ [])
-unfolding cleared
-cleared-as a b c d x y z w p q r s =
-    λ i. replicate (p i) 0 ∷ replicate (q i) 0 ∷ replicate (r i) 0 ∷ replicate (s i) 0 ∷ []
 
 module _ (w h : ℕ) where
   pub plain-tables : (f m a b c : List ℕ) → a ≡ nexts w h m → b ≡ others w h m → c ≡ sides w h f m

@@ -11,10 +11,10 @@ use Rattle.paper.specs.Joining.{on}
 use Rattle.paper.specs.Refusal.{Outcome}
 use Rattle.level.specs.declared.draw.Drawn.{Drawn}
 use Rattle.level.specs.declared.draw.Drawn.the-variants.{Done, Size, Level, Sheet, Tables}
-use Rattle.level.specs.Mask.{masked, ruled}
-use Rattle.level.specs.Line.{nexts, others, sides}
-use Rattle.level.specs.Keep.{bends, keeps}
-use Rattle.level.specs.Link.{alongNext, alongOther, alongSide}
+use Rattle.lines.specs.Mask.{masked, ruled}
+use Rattle.lines.specs.Line.{nexts, others, sides}
+use Rattle.curves.specs.Keep.{bends, keeps}
+use Rattle.curves.specs.Link.{alongNext, alongOther, alongSide}
 
 unfoldable pub plainTables : ℕ → ℕ → List ℕ → List ℕ → List (List ℕ)
 plainTables w h f m = nexts w h m ∷ others w h m ∷ sides w h f m ∷ []

@@ -1,5 +1,1 @@
-pub mod Mask
-pub mod Line
-pub mod Keep
-pub mod Link
 pub mod Draw

@@ -1,25 +1,24 @@
-use crate::entry;
-use crate::keep;
-use crate::line;
-use crate::link;
-use crate::mask;
+use curves::keep;
+use curves::link;
+use lines::line;
+use lines::mask;
 use plane::size;
-use region::cells;
-use region::frame;
+use region::names;
 use region::points;
+use table::entry;
 ghost use mathlib.Core.Path.{_≡_};
 ghost use mathlib.Core.Bool.{true};
 ghost use mathlib.Core.List.{[], _∷_};
 ghost use Prim.Native.Nat.{_+_, _*_, _≤_};
-ghost use lib.ListN.{length, take};
+ghost use lib.ListN.{length};
 ghost use Rattle.plane.specs.Size.{within};
 ghost use Rattle.plane.specs.Dart.{points, slots};
 ghost use Rattle.paper.specs.Name.{names};
 ghost use Rattle.paper.specs.Refusal.{cleared, levelTables, levelled};
 ghost use Rattle.region.specs.Frame.{framed};
-ghost use Rattle.level.specs.Line.{nexts, sides};
-ghost use Rattle.level.specs.Mask.{masked};
-ghost use Rattle.level.specs.Keep.{keeps};
+ghost use Rattle.lines.specs.Line.{nexts, sides};
+ghost use Rattle.lines.specs.Mask.{masked};
+ghost use Rattle.curves.specs.Keep.{keeps};
 ghost use Rattle.paper.specs.Level.{tops};
 ghost use Rattle.paper.specs.Joining.{on};
 ghost use Rattle.level.specs.Draw.{plainTables, alongTables, tablesOf, answer, told};
@@ -54,23 +53,6 @@ impl Drawn {
 
 // The greatest level.
 const HIGHEST: u16 = 3;
-
-// The names of the cells with the outside round them, at the start of a work table.
-fn name_cells(width: u16, height: u16, sheet: &[u16], first: &mut [u16], table: &mut [u16])
-    requires { ⌜
-        (within width height ≡ true) × (length (now sheet) ≡ width * height) ×
-        (length (now first) ≡ slots width height) × (length (now table) ≡ slots width height)
-        ⌝ }
-    ensures { λ _. ⌜
-        take (points width height + width + 2) (now (table .exit)) ≡
-        framed width height (names width height (now (sheet .entry)))
-        ⌝ }
-{
-    let cells = (width * height) as usize;
-    let long = ((width + 1) * (height + 1) + width + 2) as usize;
-    cells::first_cells(width, height, sheet, &mut first[..cells]);
-    frame::frame(width, height, &first[..cells], &mut table[..long]);
-}
 
 // Next, other and side of a level that keeps every point, from its lines.
 fn plain(
@@ -312,19 +294,6 @@ fn levels(
     third(width, height, framed, next1, masks, kept, next, other, side);
 }
 
-// Sets every entry of the four work tables to 0.
-pub fn clear_work(a: &mut [u16], b: &mut [u16], c: &mut [u16], d: &mut [u16])
-    ensures { λ _. ⌜
-        (now (a .exit) ∷ now (b .exit) ∷ now (c .exit) ∷ now (d .exit) ∷ []) ≡
-        cleared (now (a .entry) ∷ now (b .entry) ∷ now (c .entry) ∷ now (d .entry) ∷ [])
-        ⌝ }
-{
-    entry::clear(a);
-    entry::clear(b);
-    entry::clear(c);
-    entry::clear(d);
-}
-
 // Draws a level of a sheet where nothing is refused.
 pub fn fill(
     width: u16,
@@ -355,7 +324,7 @@ pub fn fill(
 {
     let points = ((width + 1) * (height + 1)) as usize;
     let framed = points + width as usize + 2;
-    name_cells(width, height, sheet, a, b);
+    names::name_cells(width, height, sheet, a, b);
     levels(
         width,
         height,
@@ -368,7 +337,7 @@ pub fn fill(
         other,
         side,
     );
-    clear_work(a, b, c, d);
+    entry::clear_four(a, b, c, d);
 }
 
 // Draws a level of a sheet: next, other and side, the mark at each slot without a dart of the level, and the work tables

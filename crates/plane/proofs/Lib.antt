@@ -3,6 +3,7 @@ mod Back
 pub mod Count
 pub mod Darts
 mod Entry
+pub mod Fit
 pub mod Limit
 pub mod Mask
 pub mod Points

@@ -9,22 +9,13 @@ use mathlib.Core.List.{List, map}
 use mathlib.Core.Logic.{_⊎_, inl, inr, ⊎-elim, _≢_}
 use Prim.Native.Nat.{ℕ, suc, _+_, _≤_, _<_, zero-le, min, max}
 use native.Mathlib.Nat.{le-refl, not-suc-le-zero, eq-or-lt-of-le}
-use native.Mathlib.Decide.{ℕ-discrete}
 use native.Mathlib.Omega.{arith}
 use lib.ListN.{length, getD, set, length-set, length-map}
-use lib.Seq.{getD-set-same, getD-set-other, ext-getD}
+use lib.Seq.{ext-getD}
 use Rattle.laws.specs.Least.{lower, tie}
 use Rattle.laws.proofs.Least.{lower-cases, lower-le, lower-other, getD-lower}
+use Rattle.table.proofs.Entries.{set-cases}
 use Rattle.region.specs.Forest.{Leads, Labels, Forest, Grown, Planted, Found}
-
--- An entry after a store.
-pub set-cases : (t : List ℕ) (x q k : ℕ) → x < length t
-    → ((k ≡ x) × (getD (set t x q) k 0 ≡ q)) ⊎ ((k ≢ x) × (getD (set t x q) k 0 ≡ getD t k 0))
-set-cases t x q k b = go (ℕ-discrete k x)
-  where
-    go : Dec (k ≡ x) → ((k ≡ x) × (getD (set t x q) k 0 ≡ q)) ⊎ ((k ≢ x) × (getD (set t x q) k 0 ≡ getD t k 0))
-    go (yes e) = inl (e, rw e (getD-set-same t x q 0 b))
-    go (no e) = inr (e, getD-set-other t x k q 0 e)
 
 -- Entries.
 module _ (l : List ℕ) where

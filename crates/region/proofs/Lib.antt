@@ -1,7 +1,6 @@
-pub mod Column
 pub mod First
-pub mod Fit
 pub mod Label
 pub mod Neighbour
 pub mod Reach
+pub mod Room
 pub mod Surround

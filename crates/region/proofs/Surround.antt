@@ -22,8 +22,8 @@ use Rattle.plane.specs.Dart.{points}
 use Rattle.paper.specs.Name.{named, cells}
 use Rattle.paper.proofs.Name.{cell-below}
 use Rattle.region.specs.Frame.{framed}
-use Rattle.region.proofs.Column.{column-on, column-back, row-on, row-down}
-use Rattle.region.proofs.Label.{set-cases}
+use Rattle.laws.proofs.Column.{column-on, column-back, row-on, row-down}
+use Rattle.table.proofs.Entries.{set-cases}
 
 -- The outside.
 and-false : (a b : Bool) → b ≡ false → (a && b) ≡ false

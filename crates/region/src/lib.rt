@@ -3,4 +3,5 @@
 pub mod cells;
 mod forest;
 pub mod frame;
+pub mod names;
 pub mod points;

@@ -1,7 +1,7 @@
 use mathlib.Core.Path.{sym, _∙_}
 use native.Mathlib.Omega.{arith}
 use borrow.Author.Tests.{not-true, not-false}
-use Rattle.region.proofs.Fit.{cells-fit}
+use Rattle.plane.proofs.Fit.{cells-fit}
 use Rattle.drawing.proofs.Stated.{stated-lengths}
 use Rattle.drawing.proofs.Refusing.{draw-size, draw-sheet, draw-tables, draw-done}
 use borrow.Author.Needs.{needs}

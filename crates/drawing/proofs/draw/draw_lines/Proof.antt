@@ -2,8 +2,10 @@ use mathlib.Core.Path.{sym}
 use native.Mathlib.Omega.{arith}
 use Rattle.plane.specs.Dart.{points}
 use Rattle.plane.proofs.Limit.{within-limits}
-use Rattle.region.proofs.Fit.{points-fit}
-use Rattle.drawing.proofs.Part.{front-in, front-long, front-back, back-in, back-long, points-part, surround-part, lined-all}
+use Rattle.plane.proofs.Fit.{points-fit}
+use Rattle.table.proofs.Front.{front-in, front-long, front-back, back-in, back-long}
+use Rattle.region.proofs.Room.{points-part, surround-part}
+use Rattle.drawing.proofs.Part.{lined-all}
 use borrow.Author.Needs.{needs}
 use Rattle.drawing.proofs.draw.draw_lines.Statement.{statement}
 use Rattle.drawing.proofs.draw.draw_lines.Tie as tie
@@ -32,7 +34,7 @@ add-around-2 c = omega (arith, points-fit _ _ (c .before .before .before .before
 
 slice-aggregate-masks : tie.Need-slice-aggregate-masks
 unfolding points
-slice-aggregate-masks c = sym (front-long _ _ (c .before .before .before .before .before .args .round .now) (c .before .before .before .before .before .pre .1) (surround-part _ _ (c .before .before .before .before .before .pre .0)))
+slice-aggregate-masks c = sym (front-long _ _ (c .before .before .before .before .before .args .round .now) (c .before .before .before .before .before .pre .1) (surround-part _ _))
 
 slice-relend-prefix-masks : tie.Need-slice-relend-prefix-masks
 unfolding points
@@ -44,7 +46,7 @@ slice-aggregate-masks-2 c = sym (front-long _ _ (c .before .before .before .befo
 
 masks-requires : tie.Need-masks-requires
 unfolding points
-masks-requires c κs = (c .before .before .before .before .before .before .pre .0, front-long _ _ (c .before .before .before .before .before .before .args .round .now) (c .before .before .before .before .before .before .pre .1) (surround-part _ _ (c .before .before .before .before .before .before .pre .0)), front-long _ _ (c .before .before .before .before .before .before .args .lines .now) (c .before .before .before .before .before .before .pre .2) (points-part _ _))
+masks-requires c κs = (c .before .before .before .before .before .before .pre .0, front-long _ _ (c .before .before .before .before .before .before .args .round .now) (c .before .before .before .before .before .before .pre .1) (surround-part _ _), front-long _ _ (c .before .before .before .before .before .before .args .lines .now) (c .before .before .before .before .before .before .pre .2) (points-part _ _))
 
 slice-reshare-prefix-nexts : tie.Need-slice-reshare-prefix-nexts
 unfolding points
@@ -60,7 +62,7 @@ nexts-requires c κs = (c .before .before .before .before .before .before .befor
 
 slice-aggregate-sides : tie.Need-slice-aggregate-sides
 unfolding points
-slice-aggregate-sides c = sym (front-long _ _ (c .before .before .before .before .before .before .before .before .before .before .before .before .before .before .before .args .round .now) (c .before .before .before .before .before .before .before .before .before .before .before .before .before .before .before .pre .1) (surround-part _ _ (c .before .before .before .before .before .before .before .before .before .before .before .before .before .before .before .pre .0)))
+slice-aggregate-sides c = sym (front-long _ _ (c .before .before .before .before .before .before .before .before .before .before .before .before .before .before .before .args .round .now) (c .before .before .before .before .before .before .before .before .before .before .before .before .before .before .before .pre .1) (surround-part _ _))
 
 slice-reshare-prefix-sides : tie.Need-slice-reshare-prefix-sides
 unfolding points
@@ -72,7 +74,7 @@ slice-aggregate-sides-2 c = sym (back-long _ _ (c .before .before .before .befor
 
 sides-requires : tie.Need-sides-requires
 unfolding points
-sides-requires c κs = (c .before .before .before .before .before .before .before .before .before .before .before .before .before .before .before .before .before .pre .0, front-long _ _ (c .before .before .before .before .before .before .before .before .before .before .before .before .before .before .before .before .before .args .round .now) (c .before .before .before .before .before .before .before .before .before .before .before .before .before .before .before .before .before .pre .1) (surround-part _ _ (c .before .before .before .before .before .before .before .before .before .before .before .before .before .before .before .before .before .pre .0)), back-long _ _ (c .before .before .before .before .before .before .before .before .before .before .before .before .before .before .before .before .before .args .lines .now) (c .before .before .before .before .before .before .before .before .before .before .before .before .before .before .before .before .before .pre .2) (points-part _ _) (c .before .before .before .before .before .before .before .before .before .before .masks .last .1 .1 .1 .0) (c .before .before .before .before .before .before .before .before .before .before .masks .kept .1 .1 .1 .0), c .before .before .before .before .before .before .before .before .before .before .before .before .before .before .before .before .before .pre .4)
+sides-requires c κs = (c .before .before .before .before .before .before .before .before .before .before .before .before .before .before .before .before .before .pre .0, front-long _ _ (c .before .before .before .before .before .before .before .before .before .before .before .before .before .before .before .before .before .args .round .now) (c .before .before .before .before .before .before .before .before .before .before .before .before .before .before .before .before .before .pre .1) (surround-part _ _), back-long _ _ (c .before .before .before .before .before .before .before .before .before .before .before .before .before .before .before .before .before .args .lines .now) (c .before .before .before .before .before .before .before .before .before .before .before .before .before .before .before .before .before .pre .2) (points-part _ _) (c .before .before .before .before .before .before .before .before .before .before .masks .last .1 .1 .1 .0) (c .before .before .before .before .before .before .before .before .before .before .masks .kept .1 .1 .1 .0), c .before .before .before .before .before .before .before .before .before .before .before .before .before .before .before .before .before .pre .4)
 
 same-length : tie.Need-same-length
 same-length c = search needs

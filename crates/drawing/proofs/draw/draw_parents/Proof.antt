@@ -2,8 +2,9 @@ use mathlib.Core.Path.{sym}
 use native.Mathlib.Omega.{arith}
 use Rattle.plane.specs.Dart.{points}
 use Rattle.plane.proofs.Limit.{within-limits}
-use Rattle.region.proofs.Fit.{points-fit}
-use Rattle.drawing.proofs.Part.{front-long, points-part}
+use Rattle.plane.proofs.Fit.{points-fit}
+use Rattle.table.proofs.Front.{front-long}
+use Rattle.region.proofs.Room.{points-part}
 use borrow.Author.Needs.{needs}
 use Rattle.drawing.proofs.draw.draw_parents.Statement.{statement}
 use Rattle.drawing.proofs.draw.draw_parents.Tie as tie

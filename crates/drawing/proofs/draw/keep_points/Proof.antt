@@ -2,8 +2,10 @@ use mathlib.Core.Path.{sym}
 use native.Mathlib.Omega.{arith}
 use Rattle.plane.specs.Dart.{points}
 use Rattle.plane.proofs.Limit.{within-limits}
-use Rattle.region.proofs.Fit.{points-fit}
-use Rattle.drawing.proofs.Part.{front-in, front-long, front-back, back-in, back-long, points-part, kept-all}
+use Rattle.plane.proofs.Fit.{points-fit}
+use Rattle.table.proofs.Front.{front-in, front-long, front-back, back-in, back-long}
+use Rattle.region.proofs.Room.{points-part}
+use Rattle.drawing.proofs.Part.{kept-all}
 use borrow.Author.Needs.{needs}
 use Rattle.drawing.proofs.draw.keep_points.Statement.{statement}
 use Rattle.drawing.proofs.draw.keep_points.Tie as tie

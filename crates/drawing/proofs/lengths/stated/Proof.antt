@@ -1,7 +1,7 @@
 use native.Mathlib.Omega.{arith}
 use Rattle.plane.specs.Dart.{points, slots}
 use Rattle.plane.proofs.Limit.{within-limits}
-use Rattle.region.proofs.Fit.{points-fit, cells-fit}
+use Rattle.plane.proofs.Fit.{points-fit, cells-fit}
 use Rattle.drawing.proofs.Stated.{lengths-slots, lengths-names, lengths-work}
 use borrow.Author.Needs.{needs}
 use Rattle.drawing.proofs.lengths.stated.Statement.{statement}

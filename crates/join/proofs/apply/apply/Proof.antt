@@ -5,7 +5,7 @@ use lib.ListN.{length}
 use lib.Seq.{length-take-le, length-front}
 use Rattle.plane.specs.Dart.{points, slots}
 use Rattle.plane.proofs.Limit.{within-limits}
-use Rattle.region.proofs.Fit.{points-fit}
+use Rattle.plane.proofs.Fit.{points-fit}
 use Rattle.join.proofs.Applying.{all-steps, cleared-same}
 use Rattle.join.proofs.Sizes.{stated-sizes}
 use Rattle.join.proofs.apply.apply.Statement.{statement}

@@ -2,7 +2,7 @@ use Prim.Native.Nat.{_-_}
 use native.Mathlib.Omega.{arith}
 use Rattle.plane.specs.Dart.{mark, slots, reversal}
 use Rattle.plane.proofs.Limit.{within-limits}
-use Rattle.region.proofs.Fit.{points-fit}
+use Rattle.plane.proofs.Fit.{points-fit}
 use Rattle.join.proofs.Half.{Half, half-none, half-more, half-all}
 use Rattle.join.proofs.back.fill_reversals.Statement.{statement}
 use Rattle.join.proofs.back.fill_reversals.Tie as tie

@@ -3,7 +3,7 @@ use native.Mathlib.Omega.{arith}
 use Rattle.plane.specs.Dart.{points}
 use Rattle.plane.proofs.Limit.{within-limits}
 use Rattle.paper.specs.Joining.{on, close, closes}
-use Rattle.region.proofs.Fit.{points-fit, darts-fit}
+use Rattle.plane.proofs.Fit.{points-fit, darts-fit}
 use Rattle.join.specs.Links.{links}
 use Rattle.join.proofs.Closing.{closes-none, closes-more}
 use Rattle.join.proofs.Going.{Going, going-start, going-on, going-end}

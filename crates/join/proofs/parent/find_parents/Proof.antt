@@ -5,7 +5,7 @@ use Rattle.plane.specs.Dart.{mark, dart}
 use Rattle.plane.proofs.Limit.{within-limits}
 use Rattle.paper.specs.Joining.{at, on}
 use Rattle.paper.specs.Enclosure.{parent}
-use Rattle.region.proofs.Fit.{cells-fit, points-fit}
+use Rattle.plane.proofs.Fit.{cells-fit, points-fit}
 use Rattle.join.proofs.Corner.{Parented, parented-none, parented-on, parented-down, parented-all}
 use Rattle.join.proofs.Corner.{corner-in, column-in}
 use Rattle.join.proofs.parent.find_parents.Statement.{statement}

@@ -9,7 +9,7 @@ use Rattle.plane.specs.Dart.{points}
 use Rattle.plane.proofs.Limit.{within-limits}
 use Rattle.paper.specs.Joining.{on}
 use Rattle.paper.specs.Level.{mask}
-use Rattle.region.proofs.Fit.{points-fit, darts-fit}
+use Rattle.plane.proofs.Fit.{points-fit, darts-fit}
 use Rattle.join.proofs.Pruning.{lone-some, lone-none}
 use Rattle.join.proofs.prune.hangs.Statement.{statement}
 use Rattle.join.proofs.prune.hangs.Tie as tie

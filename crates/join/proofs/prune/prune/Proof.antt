@@ -2,7 +2,7 @@ use mathlib.Core.Path.{_∙_}
 use native.Mathlib.Omega.{arith}
 use Rattle.plane.specs.Dart.{points, slots}
 use Rattle.plane.proofs.Limit.{within-limits}
-use Rattle.region.proofs.Fit.{points-fit}
+use Rattle.plane.proofs.Fit.{points-fit}
 use Rattle.join.proofs.Pruning.{Pruning, pruning-start, pruning-on, pruning-end}
 use Rattle.join.proofs.prune.prune.Statement.{statement}
 use Rattle.join.proofs.prune.prune.Tie as tie

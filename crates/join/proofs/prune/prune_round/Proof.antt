@@ -4,7 +4,7 @@ use borrow.Author.Tests.{not-true, not-false}
 use borrow.Author.Needs.{needs}
 use Rattle.plane.specs.Dart.{mark, slots}
 use Rattle.paper.proofs.Marks.{within-fits}
-use Rattle.region.proofs.Fit.{points-fit}
+use Rattle.plane.proofs.Fit.{points-fit}
 use Rattle.join.proofs.Pruning.{prune-stop, prune-go, round-links}
 use Rattle.join.proofs.prune.prune_round.Statement.{statement}
 use Rattle.join.proofs.prune.prune_round.Tie as tie

@@ -1,6 +1,6 @@
 use Rattle.level.proofs.Refused.{within-true, within-false, size-refused, level-refused, sheet-refused, next-refused, other-refused, side-refused, a-refused, b-refused, c-refused, d-refused, all-done}
 use Rattle.plane.specs.Dart.{points, slots}
-use Rattle.region.proofs.Fit.{points-fit, cells-fit}
+use Rattle.plane.proofs.Fit.{points-fit, cells-fit}
 use Rattle.plane.proofs.Limit.{within-limits}
 use native.Mathlib.Omega.{arith}
 use borrow.Author.Needs.{needs}

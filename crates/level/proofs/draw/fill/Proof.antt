@@ -1,11 +1,12 @@
 use Prim.Native.Nat.{_+_, _*_}
 use denote.Ref.{now}
-use Rattle.level.proofs.Tables.{filled-tables, cleared-as}
+use Rattle.table.proofs.Cleared.{cleared-same}
+use Rattle.level.proofs.Tables.{filled-tables}
 use lib.Seq.{length-take-le, length-front}
-use Rattle.level.proofs.Parts.{points-slots, frame-slots}
+use Rattle.region.proofs.Room.{points-part, surround-part}
 use mathlib.Core.Path.{sym, _∙_}
 use Rattle.plane.specs.Dart.{points}
-use Rattle.region.proofs.Fit.{points-fit}
+use Rattle.plane.proofs.Fit.{points-fit}
 use Rattle.plane.proofs.Limit.{within-limits}
 use native.Mathlib.Omega.{arith}
 use borrow.Author.Needs.{needs}
@@ -59,7 +60,7 @@ slice-reshare-prefix-levels c =
       c .before .before .before .before .before .before .before .before .before .before .before .before
           .before .before .before .pre .7,
       c .before .before .before .before .name-cells .kept .1 .1 .1 .1 .0,
-      frame-slots
+      surround-part
           (c .before .before .before .before .before .before .before .before .before .before .before .before .before
           .before .before .args .width) (c .before .before .before .before .before .before .before .before .before .before
           .before .before .before .before .before .args .height),
@@ -74,7 +75,7 @@ slice-aggregate-levels c =
           .before .before .before .before .before .before .before .pre .7,
       c .before .before .before .before .before
           .name-cells .kept .1 .1 .1 .1 .0,
-      frame-slots (c .before .before .before .before .before .before .before .before
+      surround-part (c .before .before .before .before .before .before .before .before
           .before .before .before .before .before .before .before .before .args .width) (c .before .before .before .before
           .before .before .before .before .before .before .before .before .before .before .before .before .args
           .height),
@@ -87,7 +88,7 @@ slice-relend-prefix-levels c =
       arith,
       c .before .before .before .before .before .before .before .before .before .before .before .before
           .before .before .before .before .before .pre .8,
-      points-slots (c .before .before .before .before .before .before
+      points-part (c .before .before .before .before .before .before
           .before .before .before .before .before .before .before .before .before .before .before .args .width) (c .before
           .before .before .before .before .before .before .before .before .before .before .before .before .before .before
           .before .before .args .height),
@@ -100,7 +101,7 @@ slice-aggregate-levels-2 c =
       arith,
       c .before .before .before .before .before .before .before .before .before
           .before .before .before .before .before .before .before .before .before .pre .8,
-      points-slots (c .before .before
+      points-part (c .before .before
           .before .before .before .before .before .before .before .before .before .before .before .before .before .before
           .before .before .args .width) (c .before .before .before .before .before .before .before .before .before .before
           .before .before .before .before .before .before .before .before .args .height),
@@ -113,7 +114,7 @@ slice-relend-prefix-levels-2 c =
       arith,
       c .before .before .before .before .before .before .before .before .before .before .before .before
           .before .before .before .before .before .before .pre .9,
-      points-slots (c .before .before .before .before .before
+      points-part (c .before .before .before .before .before
           .before .before .before .before .before .before .before .before .before .before .before .before .before .args
           .width) (c .before .before .before .before .before .before .before .before .before .before .before .before
           .before .before .before .before .before .before .args .height),
@@ -126,7 +127,7 @@ slice-aggregate-levels-3 c =
       arith,
       c .before .before .before .before .before .before .before .before .before
           .before .before .before .before .before .before .before .before .before .before .pre .9,
-      points-slots (c .before
+      points-part (c .before
           .before .before .before .before .before .before .before .before .before .before .before .before .before .before
           .before .before .before .before .args .width) (c .before .before .before .before .before .before .before .before
           .before .before .before .before .before .before .before .before .before .before .before .args .height),
@@ -146,7 +147,7 @@ levels-requires c κs =
             .pre .7,
         c .before .before .before .before .before .before .before .before .before .before .before .name-cells
             .kept .1 .1 .1 .1 .0,
-        frame-slots (c .before .before .before .before .before .before .before .before .before
+        surround-part (c .before .before .before .before .before .before .before .before .before
             .before .before .before .before .before .before .before .before .before .before .before .before .before .args
             .width) (c .before .before .before .before .before .before .before .before .before .before .before .before
             .before .before .before .before .before .before .before .before .before .before .args .height),
@@ -159,7 +160,7 @@ levels-requires c κs =
         c .before .before .before .before .before .before .before .before
             .before .before .before .before .before .before .before .before .before .before .before .before .before .before
             .pre .8,
-        points-slots (c .before .before .before .before .before .before .before .before .before .before .before
+        points-part (c .before .before .before .before .before .before .before .before .before .before .before
             .before .before .before .before .before .before .before .before .before .before .before .args .width) (c .before
             .before .before .before .before .before .before .before .before .before .before .before .before .before .before
             .before .before .before .before .before .before .before .args .height),
@@ -169,7 +170,7 @@ levels-requires c κs =
         c
             .before .before .before .before .before .before .before .before .before .before .before .before .before .before
             .before .before .before .before .before .before .before .before .pre .9,
-        points-slots (c .before .before .before
+        points-part (c .before .before .before
             .before .before .before .before .before .before .before .before .before .before .before .before .before .before
             .before .before .before .before .before .args .width) (c .before .before .before .before .before .before .before
             .before .before .before .before .before .before .before .before .before .before .before .before .before .before
@@ -180,8 +181,8 @@ levels-requires c κs =
       s .5,
     )
 
-clear-work-requires : tie.Need-clear-work-requires
-clear-work-requires c κs = search needs
+clear-four-requires : tie.Need-clear-four-requires
+clear-four-requires c κs = search needs
 
 same-length : tie.Need-same-length
 same-length c = search needs
@@ -220,8 +221,7 @@ returns c =
           .before .before .before .before .before .before .before .before .before .before .before .before .before .before
           .before .before .before .before .before .before .levels .ensures),
       c .before .before .before .before .before
-          .before .before .before .clear-work .ensures ∙ cleared-as (a .a .now) (a .b .now) (a .c .now) (a .d .now) _ _ _
-          _ (c .before .before .before .before .before .before .before .before .before .before .before .before .before
+          .before .before .before .clear-four .ensures ∙ cleared-same _ _ _ _ (a .a .now) (a .b .now) (a .c .now) (a .d .now) (c .before .before .before .before .before .before .before .before .before .before .before .before .before
           .before .before .before .before .before .before .before .before .before .before .before .before .levels .kept .1
           .1 .1 .1 .0 ∙ c .before .before .before .before .before .before .before .before .before .before .before .before
           .before .before .before .before .before .before .before .before .before .before .before .before .before .before
@@ -259,7 +259,7 @@ fill-spec =
     slice-relend-prefix-levels-2
     slice-aggregate-levels-3
     levels-requires
-    clear-work-requires
+    clear-four-requires
     same-length
     same-length-2
     same-length-3

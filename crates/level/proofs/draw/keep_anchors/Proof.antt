@@ -1,11 +1,11 @@
 use Prim.Native.Nat.{_+_, _*_}
-use Rattle.level.specs.Keep.{keeps}
+use Rattle.curves.specs.Keep.{keeps}
 use denote.Ref.{now}
 use lib.Seq.{length-take-le}
-use Rattle.level.proofs.Parts.{front-long, front-length, front-take}
-use mathlib.Core.Path.{sym, ap, _∙_}
+use Rattle.table.proofs.Front.{front-back, back-in, back-long}
+use mathlib.Core.Path.{refl, sym, ap, _∙_}
 use Rattle.plane.specs.Dart.{points, slots}
-use Rattle.region.proofs.Fit.{points-fit}
+use Rattle.plane.proofs.Fit.{points-fit}
 use Rattle.plane.proofs.Limit.{within-limits}
 use native.Mathlib.Omega.{arith}
 use borrow.Author.Needs.{needs}
@@ -46,31 +46,25 @@ top-points-requires c κs = (
 slice-reshare-prefix-keeps : tie.Need-slice-reshare-prefix-keeps
 unfolding slots points
 slice-reshare-prefix-keeps c =
-    front-long _ (c .before .before .top-points .last .1 .1 .1 .0) _ (c .before .before .top-points .kept .1 .1 .1
-    .0) (omega (arith, c .before .before .before .before .before .before .before .before .pre .3))
+    let b = c .before .before in
+    back-in _ _ _ refl (omega (arith, b .before .before .before .before .before .before .pre .3)) (b .top-points .last .1 .1 .1 .0)
+    (b .top-points .kept .1 .1 .1 .0)
 
 slice-aggregate-keeps : tie.Need-slice-aggregate-keeps
 unfolding slots points
 slice-aggregate-keeps c =
-    sym (front-length _ (c .before .before .before .top-points .last .1 .1 .1 .0) _ (c .before .before .before
-    .top-points .kept .1 .1 .1 .0) (omega (
-      arith,
-      c .before .before .before .before .before .before .before .before
-          .before .pre .3,
-    )))
+    let b = c .before .before .before in
+    sym (back-long _ _ _ refl (omega (arith, b .before .before .before .before .before .before .pre .3)) (b .top-points .last .1 .1 .1 .0)
+    (b .top-points .kept .1 .1 .1 .0))
 
 keeps-requires : tie.Need-keeps-requires
 unfolding slots points
 keeps-requires c κs =
-    let s = c .before .before .before .before .before .before .before .before .before .before .pre in (
+    let b = c .before .before .before .before in
+    let s = b .before .before .before .before .before .before .pre in (
       s .0,
       s .2,
-      front-length _ (c .before .before .before .before .top-points .last .1 .1 .1 .0) _ (c .before
-          .before .before .before .top-points .kept .1 .1 .1 .0) (omega (
-            arith,
-            c .before .before .before .before .before
-                .before .before .before .before .before .pre .3,
-          )),
+      back-long _ _ _ refl (omega (arith, s .3)) (b .top-points .last .1 .1 .1 .0) (b .top-points .kept .1 .1 .1 .0),
       s .4,
     )
 
@@ -83,17 +77,13 @@ same-length-2 c = search needs
 returns : tie.Need-returns
 unfolding slots points
 returns c =
-    let a = c .before .before .before .before .before .before .before .before .before .before .before .before
-    .before .args in
+    let b = c .before .before .before .before .before .before .before in
+    let s = b .before .before .before .before .before .before in
+    let a = s .args in
     let n = (a .width + 1) * (a .height + 1) in
-    c .before .before .keeps .ensures ∙ ap (keeps (a .width) (a .height) (now (a .masks))) (front-take n (c .before
-    .before .before .before .before .before .before .top-points .last .1 .1 .1 .0) (a .scratch .now) (c .before
-    .before .before .before .before .before .before .top-points .kept .1 .1 .1 .0) (omega (
-      arith,
-      c .before .before
-          .before .before .before .before .before .before .before .before .before .before .before .pre .3,
-    )) ∙ c .before
-    .before .before .before .before .before .before .top-points .ensures)
+    c .before .before .keeps .ensures ∙ ap (keeps (a .width) (a .height) (now (a .masks)))
+    (front-back _ n (a .scratch .now) refl (omega (arith, s .pre .3)) (b .top-points .last .1 .1 .1 .0)
+    (b .top-points .kept .1 .1 .1 .0) ∙ b .top-points .ensures)
 
 pub keep-anchors-spec : {M : Type 1} → statement M
 keep-anchors-spec =

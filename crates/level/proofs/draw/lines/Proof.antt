@@ -1,4 +1,4 @@
-use Rattle.level.specs.Line.{nexts, sides}
+use Rattle.lines.specs.Line.{nexts, sides}
 use mathlib.Core.Path.{ap, _∙_}
 use Rattle.level.proofs.Tables.{three}
 use borrow.Author.Needs.{needs}

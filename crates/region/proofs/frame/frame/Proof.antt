@@ -2,7 +2,7 @@ use mathlib.Core.Path.{sym, _∙_}
 use mathlib.Core.List.{map}
 use Prim.Native.Nat.{suc, _-_}
 use native.Mathlib.Omega.{arith}
-use Rattle.region.proofs.Fit.{frame-fit}
+use Rattle.plane.proofs.Fit.{frame-fit}
 use Rattle.region.proofs.Surround.{
   Framing,
   framing-none,

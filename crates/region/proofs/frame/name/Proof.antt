@@ -1,7 +1,7 @@
 use Prim.Native.Nat.{_+_, _*_, _-_, _<_}
 use native.Mathlib.Omega.{arith}
 use borrow.Author.Needs.{needs}
-use Rattle.region.proofs.Fit.{cells-fit}
+use Rattle.plane.proofs.Fit.{cells-fit}
 use Rattle.region.proofs.Surround.{named-west, named-north, named-south, named-cell, cell-in}
 use Rattle.region.proofs.frame.name.Statement.{statement}
 use Rattle.region.proofs.frame.name.Tie as tie

@@ -1,0 +1,45 @@
+-- What the counts may rely on once a check of the drawing has accepted the tables.
+use mathlib.Core.Path.{_≡_, sym, _∙_}
+use mathlib.Core.Bool.{true}
+use mathlib.Core.List.{List}
+use Prim.Native.Nat.{ℕ, _+_, _*_, _≤_, _<_}
+use native.Mathlib.Omega.{arith}
+use lib.ListN.{length}
+use Rattle.plane.specs.Dart.{mark}
+use Rattle.paper.specs.Drawing.{Tables}
+use Rattle.paper.specs.Refusal.{five}
+use Rattle.plane.proofs.Fit.{cells-fit}
+use Rattle.verdict.specs.declared.judge.Verdict.{Verdict}
+use Rattle.enclosure.specs.Tree.{known, Falls}
+use Rattle.verdict.specs.Answer.{answered}
+use Rattle.verdict.specs.Check.{checked}
+use Rattle.drawing.proofs.Stated.{stated-parent}
+use Rattle.enclosure.proofs.Climb.{known-in}
+use Rattle.enclosure.proofs.Fall.{judged-falls}
+use Rattle.verdict.proofs.Refusing.{accepted-within, accepted-stated, accepted-judged}
+
+module _ (w h : ℕ) (t : Tables) (ws vs : List (List ℕ)) (v : Verdict) (d : v ≡ Verdict.Done)
+    (c : answered v (five t) vs ≡ checked w h t ws) where
+  pub accepted-done : answered Verdict.Done (five t) vs ≡ checked w h t ws
+  accepted-done = rw d at c
+
+  pub accepted-falls : Falls (t .parent)
+  accepted-falls =
+      judged-falls w h t (accepted-within w h t ws vs accepted-done) (accepted-judged w h t ws vs accepted-done)
+
+  pub accepted-long : length (t .parent) ≡ w * h + 1
+  accepted-long = stated-parent w h t ws (accepted-stated w h t ws vs accepted-done)
+
+  pub accepted-fits : length (t .parent) ≤ mark
+  unfolding mark
+  accepted-fits = omega (arith, accepted-long, cells-fit w h (accepted-within w h t ws vs accepted-done))
+
+  -- a known name may be climbed from
+  pub accepted-known : (r : ℕ) → known (t .parent) r ≡ true
+      → Falls (t .parent) × (r < length (t .parent)) × (known (t .parent) r ≡ true)
+  accepted-known r k = (accepted-falls, known-in (t .parent) (omega (arith, accepted-long)) r k, k)
+
+  -- all names may be counted, into tables as long
+  pub accepted-all : (m n : ℕ) → m ≡ w * h + 1 → n ≡ w * h + 1
+      → Falls (t .parent) × (length (t .parent) ≤ mark) × (m ≡ length (t .parent)) × (n ≡ length (t .parent))
+  accepted-all m n p q = (accepted-falls, accepted-fits, p ∙ sym accepted-long, q ∙ sym accepted-long)

@@ -1,0 +1,208 @@
+use enclosure::tree;
+use plane::dart;
+use plane::size;
+use table::entry;
+use verdict::judge;
+use verdict::judge::Verdict;
+ghost use mathlib.Core.Path.{_≡_};
+ghost use mathlib.Core.List.{[], _∷_, _++_};
+ghost use Rattle.paper.specs.Refusal.{five, deepened, holed};
+ghost use Rattle.drawing.specs.Given.{tables, works};
+ghost use Rattle.enclosure.specs.Tree.{known};
+ghost use Rattle.counts.specs.Tally.{tallied};
+ghost use Rattle.verdict.specs.Answer.{answered};
+ghost use Rattle.counts.specs.Answer.{counted, refused};
+
+// What a count answers: the number, or what is refused.
+pub enum Count {
+    Is(u16),
+    // The width or the height is not 1 to the greatest.
+    Size,
+    // The length of a lent table or work table is not the stated one.
+    Tables,
+    // The tables are the drawing of no sheet of this size.
+    Drawing,
+    // No region has the name.
+    Name,
+}
+
+// Whether a name is the outside's or some region's.
+fn is_known(parent: &[u16], name: u16) -> bool
+    ensures { λ r. ⌜ r ≡ known (now (parent .entry)) name ⌝ }
+{
+    if name == 0 {
+        return true;
+    }
+    entry::get(parent, name) != dart::MARK
+}
+
+// What a count answers where a check of the drawing refuses.
+fn refused(verdict: Verdict) -> Count
+    ensures { λ r. ⌜ r ≡ refused verdict ⌝ }
+{
+    match verdict {
+        Verdict::Size => Count::Size,
+        Verdict::Tables => Count::Tables,
+        Verdict::Drawing => Count::Drawing,
+        Verdict::Done => Count::Name,
+    }
+}
+
+// The depth of a region, or of the outside for the name 0: refusals 1, 4, 5 and 8. The tables stay as they are; the work
+// tables are left at 1 and 4, else cleared.
+pub fn depth(
+    width: u16,
+    height: u16,
+    next1: &[u16],
+    side1: &[u16],
+    next3: &[u16],
+    other3: &[u16],
+    parent: &[u16],
+    name: u16,
+    a: &mut [u16],
+    b: &mut [u16],
+    c: &mut [u16],
+    d: &mut [u16],
+) -> Count
+    ensures { λ r. ⌜
+        counted r
+        (five
+        (tables (now (next1 .entry)) (now (side1 .entry)) (now (next3 .entry)) (now (other3 .entry)) (now (parent .entry))))
+        (works (now (a .exit)) (now (b .exit)) (now (c .exit)) (now (d .exit))) ≡
+        deepened width height
+        (tables (now (next1 .entry)) (now (side1 .entry)) (now (next3 .entry)) (now (other3 .entry)) (now (parent .entry)))
+        name
+        (works (now (a .entry)) (now (b .entry)) (now (c .entry)) (now (d .entry)))
+        ⌝ }
+{
+    let verdict = judge::check(
+        width,
+        height,
+        next1,
+        side1,
+        next3,
+        other3,
+        parent,
+        a,
+        b,
+        c,
+        d,
+    );
+    let Verdict::Done = verdict else {
+        return refused(verdict);
+    };
+    if !is_known(parent, name) {
+        return Count::Name;
+    }
+    Count::Is(tree::depth(parent, name))
+}
+
+// The hole count of a region, or of the outside for the name 0: refusals 1, 4, 5 and 8. The tables stay as they are; the
+// work tables are left at 1 and 4, else cleared.
+pub fn holes(
+    width: u16,
+    height: u16,
+    next1: &[u16],
+    side1: &[u16],
+    next3: &[u16],
+    other3: &[u16],
+    parent: &[u16],
+    name: u16,
+    a: &mut [u16],
+    b: &mut [u16],
+    c: &mut [u16],
+    d: &mut [u16],
+) -> Count
+    ensures { λ r. ⌜
+        counted r
+        (five
+        (tables (now (next1 .entry)) (now (side1 .entry)) (now (next3 .entry)) (now (other3 .entry)) (now (parent .entry))))
+        (works (now (a .exit)) (now (b .exit)) (now (c .exit)) (now (d .exit))) ≡
+        holed width height
+        (tables (now (next1 .entry)) (now (side1 .entry)) (now (next3 .entry)) (now (other3 .entry)) (now (parent .entry)))
+        name
+        (works (now (a .entry)) (now (b .entry)) (now (c .entry)) (now (d .entry)))
+        ⌝ }
+{
+    let verdict = judge::check(
+        width,
+        height,
+        next1,
+        side1,
+        next3,
+        other3,
+        parent,
+        a,
+        b,
+        c,
+        d,
+    );
+    let Verdict::Done = verdict else {
+        return refused(verdict);
+    };
+    if !is_known(parent, name) {
+        return Count::Name;
+    }
+    Count::Is(tree::holes(parent, name))
+}
+
+// Depth and hole count of every name at once, of the outside and of each name in use; the mark for any other name. The
+// two tables are by name, of the length of the parents. Refusals 1, 4 and 5, which leave them; the work tables are left
+// at 1 and 4, else cleared.
+pub fn counts(
+    width: u16,
+    height: u16,
+    next1: &[u16],
+    side1: &[u16],
+    next3: &[u16],
+    other3: &[u16],
+    parent: &[u16],
+    depths: &mut [u16],
+    tally: &mut [u16],
+    a: &mut [u16],
+    b: &mut [u16],
+    c: &mut [u16],
+    d: &mut [u16],
+) -> Verdict
+    ensures { λ r. ⌜
+        answered r
+        (five
+        (tables (now (next1 .entry)) (now (side1 .entry)) (now (next3 .entry)) (now (other3 .entry)) (now (parent .entry))) ++
+        now (depths .exit) ∷ now (tally .exit) ∷ [])
+        (works (now (a .exit)) (now (b .exit)) (now (c .exit)) (now (d .exit))) ≡
+        tallied width height
+        (tables (now (next1 .entry)) (now (side1 .entry)) (now (next3 .entry)) (now (other3 .entry)) (now (parent .entry)))
+        (now (depths .entry))
+        (now (tally .entry))
+        (works (now (a .entry)) (now (b .entry)) (now (c .entry)) (now (d .entry)))
+        ⌝ }
+{
+    if !size::within(width, height) {
+        return Verdict::Size;
+    }
+    let names = (width * height + 1) as usize;
+    if depths.len() != names {
+        return Verdict::Tables;
+    }
+    if tally.len() != names {
+        return Verdict::Tables;
+    }
+    let verdict = judge::check(
+        width,
+        height,
+        next1,
+        side1,
+        next3,
+        other3,
+        parent,
+        a,
+        b,
+        c,
+        d,
+    );
+    let Verdict::Done = verdict else {
+        return verdict;
+    };
+    tree::count_all(parent, depths, tally);
+    Verdict::Done
+}

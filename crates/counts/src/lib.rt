@@ -1,0 +1,2 @@
+// Depth and hole count of the regions of a drawing.
+pub mod count;

@@ -1,0 +1,4 @@
+pub mod Corner
+pub mod Climb
+pub mod Tally
+pub mod Fall

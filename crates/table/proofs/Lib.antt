@@ -1,0 +1,6 @@
+pub mod Entries
+pub mod Filled
+pub mod Half
+pub mod Same
+pub mod Cleared
+pub mod Front

@@ -1,0 +1,130 @@
+-- The outcome of a check of a drawing, and what it tells of a call that goes on after it.
+--   checked w h t ws == the outcome of the check of the tables t with the work tables ws
+use mathlib.Core.Path.{_≡_, refl, sym, ap, _∙_}
+use mathlib.Core.Bool.{Bool, true, false, cond, not}
+use mathlib.Core.List.{List, [], _∷_}
+use mathlib.Core.Logic.{⊎-elim}
+use Prim.Native.Nat.{ℕ, zero, suc}
+use native.Mathlib.Omega.{arith}
+use lib.Dec.{ltb}
+use borrow.Author.Tests.{not-false}
+use types.Run.{OneOf}
+use denote.Enum.Declared.{tagOf}
+use Rattle.plane.specs.Size.{within}
+use Rattle.paper.specs.Drawing.{Tables, judged}
+use Rattle.paper.specs.Refusal.{Outcome, outcome, stated, cleared, five}
+use Rattle.drawing.specs.Answer.{left}
+use Rattle.verdict.specs.declared.judge.Verdict.{Verdict}
+use Rattle.verdict.specs.Answer.{answer, answered}
+use Rattle.verdict.specs.Check.{checkRefusal, checked}
+use Rattle.verdict.proofs.judge.Verdict.{the-type}
+
+-- A check, one test after the other.
+module _ (w h : ℕ) (t : Tables) (ws : List (List ℕ)) where
+  pub check-size : within w h ≡ false → answered Verdict.Size (five t) ws ≡ checked w h t ws
+  unfolding answered answer checked checkRefusal outcome
+  check-size e = rw e
+
+  module _ (e : within w h ≡ true) where
+    pub check-tables : stated w h t ws ≡ false → answered Verdict.Tables (five t) ws ≡ checked w h t ws
+    unfolding answered answer checked checkRefusal outcome
+    check-tables f = rw (e, f)
+
+    module _ (f : stated w h t ws ≡ true) (vs : List (List ℕ)) (g : vs ≡ cleared ws) where
+      pub check-none : judged w h t ≡ false → answered Verdict.Drawing (five t) vs ≡ checked w h t ws
+      unfolding answered answer checked checkRefusal outcome
+      check-none j = rw (e, f, j, g)
+
+      pub check-done : judged w h t ≡ true → answered Verdict.Done (five t) vs ≡ checked w h t ws
+      unfolding answered answer checked checkRefusal outcome
+      check-done j = rw (e, f, j, g)
+
+-- The number and the work tables of an outcome.
+outcome-number : (k : ℕ) (vs : List ℕ) (ts us ws : List (List ℕ)) → outcome k vs ts us ws .number ≡ k
+unfolding outcome
+outcome-number zero vs ts us ws = refl
+outcome-number (suc k) vs ts us ws = refl
+
+pub work-left : ℕ → List (List ℕ) → List (List ℕ)
+work-left zero ws = cleared ws
+work-left (suc k) ws = cond (ltb k 4) ws (cleared ws)
+
+outcome-work : (k : ℕ) (vs : List ℕ) (ts us ws : List (List ℕ)) → outcome k vs ts us ws .work ≡ work-left k ws
+unfolding outcome work-left
+outcome-work zero vs ts us ws = refl
+outcome-work (suc k) vs ts us ws = refl
+
+-- a refusal again, with other tables
+pub again : (k a : ℕ) (ts us vs ws : List (List ℕ)) → a ≡ k → (j : ℕ) × (a ≡ suc j) → vs ≡ work-left k ws
+    → left a [] ts vs ≡ outcome k [] ts us ws
+unfolding outcome work-left
+again k a ts us vs ws e (j, p) q = rw (q, ← e, p)
+
+-- Three tests, and what comes after them.
+abbrev pub tests : Bool → Bool → Bool → ℕ → ℕ
+tests a b c x = cond a 1 (cond b 4 (cond c 5 x))
+
+pub stopped : (a b c : Bool) (x k : ℕ) → tests a b c 0 ≡ suc k → tests a b c x ≡ tests a b c 0
+stopped true b c x k e = refl
+stopped false true c x k e = refl
+stopped false false true x k e = refl
+stopped false false false x k e = absurd (omega arith)
+
+pub passed : (a b c : Bool) (x : ℕ) → tests a b c 0 ≡ 0 → (tests a b c x ≡ x) × (a ≡ false) × (b ≡ false) × (c ≡ false)
+passed true b c x e = absurd (omega arith)
+passed false true c x e = absurd (omega arith)
+passed false false true x e = absurd (omega arith)
+passed false false false x e = (refl, refl, refl, refl)
+
+-- a refusal's outcome has no values
+pub refusing : (k j : ℕ) (vs us : List ℕ) (ts ws : List (List ℕ)) → k ≡ suc j → outcome k vs ts ts ws ≡ outcome k us ts ts ws
+unfolding outcome
+refusing k j vs us ts ws e = rw e
+
+-- the number of a verdict that is not done
+pub tag-number : (v : Verdict) → OneOf (1 ∷ 2 ∷ 3 ∷ []) (tagOf the-type v) → (j : ℕ) × (answer v ≡ suc j)
+unfolding answer
+tag-number Verdict.Done p = absurd (⊎-elim (λ q. omega arith) (⊎-elim (λ q. omega arith) (λ q. omega arith)) p)
+tag-number Verdict.Size p = (0, refl)
+tag-number Verdict.Tables p = (3, refl)
+tag-number Verdict.Drawing p = (4, refl)
+
+-- A check that left the work tables vs.
+module _ (w h : ℕ) (t : Tables) (ws vs : List (List ℕ)) where
+  -- its three tests
+  abbrev pub no-size : Bool
+  no-size = not (within w h)
+
+  abbrev pub no-lengths : Bool
+  no-lengths = not (stated w h t ws)
+
+  abbrev pub no-drawing : Bool
+  no-drawing = not (judged w h t)
+
+  module _ (v : Verdict) (e : answered v (five t) vs ≡ checked w h t ws) where
+    pub number : answer v ≡ checkRefusal w h t ws
+    unfolding answered checked
+    number = ap (λ (o : Outcome). o .number) e ∙ outcome-number (checkRefusal w h t ws) [] (five t) (five t) ws
+
+    pub work : vs ≡ work-left (checkRefusal w h t ws) ws
+    unfolding answered checked
+    work = ap (λ (o : Outcome). o .work) e ∙ outcome-work (checkRefusal w h t ws) [] (five t) (five t) ws
+
+  -- it accepts
+  module _ (e : answered Verdict.Done (five t) vs ≡ checked w h t ws) where
+    pub accepted : tests no-size no-lengths no-drawing 0 ≡ 0
+    unfolding answer checkRefusal
+    accepted = sym (number Verdict.Done e)
+
+    pub accepted-within : within w h ≡ true
+    accepted-within = not-false (within w h) (passed no-size no-lengths no-drawing 0 accepted .1)
+
+    pub accepted-stated : stated w h t ws ≡ true
+    accepted-stated = not-false (stated w h t ws) (passed no-size no-lengths no-drawing 0 accepted .2)
+
+    pub accepted-judged : judged w h t ≡ true
+    accepted-judged = not-false (judged w h t) (passed no-size no-lengths no-drawing 0 accepted .3)
+
+    pub accepted-work : vs ≡ cleared ws
+    unfolding work-left checkRefusal
+    accepted-work = rw accepted at (work Verdict.Done e)

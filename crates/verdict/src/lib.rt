@@ -1,0 +1,3 @@
+// Whether five tables are the drawing of some sheet.
+pub mod judge;
+mod labels;
