@@ -16,23 +16,23 @@ use Rattle.verdict.specs.Check.{checked}
 use Rattle.drawing.proofs.Stated.{stated-parent}
 use Rattle.enclosure.proofs.Climb.{known-in}
 use Rattle.enclosure.proofs.Fall.{judged-falls}
-use Rattle.verdict.proofs.Refusing.{accepted-within, accepted-stated, accepted-judged}
+use Rattle.verdict.proofs.Refusing.{accepted-done, accepted-within, accepted-stated, accepted-judged}
 
 module _ (w h : ℕ) (t : Tables) (ws vs : List (List ℕ)) (v : Verdict) (d : v ≡ Verdict.Done)
     (c : answered v (five t) vs ≡ checked w h t ws) where
-  pub accepted-done : answered Verdict.Done (five t) vs ≡ checked w h t ws
-  accepted-done = rw d at c
+  done : answered Verdict.Done (five t) vs ≡ checked w h t ws
+  done = accepted-done w h t ws vs v d c
 
   pub accepted-falls : Falls (t .parent)
   accepted-falls =
-      judged-falls w h t (accepted-within w h t ws vs accepted-done) (accepted-judged w h t ws vs accepted-done)
+      judged-falls w h t (accepted-within w h t ws vs done) (accepted-judged w h t ws vs done)
 
   pub accepted-long : length (t .parent) ≡ w * h + 1
-  accepted-long = stated-parent w h t ws (accepted-stated w h t ws vs accepted-done)
+  accepted-long = stated-parent w h t ws (accepted-stated w h t ws vs done)
 
   pub accepted-fits : length (t .parent) ≤ mark
   unfolding mark
-  accepted-fits = omega (arith, accepted-long, cells-fit w h (accepted-within w h t ws vs accepted-done))
+  accepted-fits = omega (arith, accepted-long, cells-fit w h (accepted-within w h t ws vs done))
 
   -- a known name may be climbed from
   pub accepted-known : (r : ℕ) → known (t .parent) r ≡ true

@@ -1,6 +1,6 @@
 -- The outcomes of the counts, after a check of the drawing.
 --   countRefusal w h t r ws == the refusal's number of a count of the name r, 0 for none
-use mathlib.Core.Path.{_≡_, refl, sym, ap, _∙_}
+use mathlib.Core.Path.{_≡_, refl, _∙_}
 use mathlib.Core.Bool.{Bool, true, false, cond, not, _&&_}
 use mathlib.Core.List.{List, [], _∷_, _++_}
 use mathlib.Core.Logic.{_≢_}
@@ -20,7 +20,7 @@ use Rattle.verdict.specs.declared.judge.Verdict.{Verdict}
 use Rattle.verdict.specs.Answer.{answer, answered}
 use Rattle.verdict.specs.Check.{checkRefusal, checked}
 use Rattle.verdict.proofs.judge.Verdict.{the-type}
-use Rattle.verdict.proofs.Refusing.{again, stopped, passed, refusing, tag-number, no-size, no-lengths, no-drawing, number, work, accepted, accepted-work}
+use Rattle.verdict.proofs.Refusing.{again, refused-stops, tag-number, number, work, accepted-on, accepted-work}
 use Rattle.counts.specs.declared.count.Count.{Count}
 use Rattle.counts.specs.Answer.{count, values, counted, refused}
 use Rattle.counts.specs.Tally.{tallyRefusal, tallied}
@@ -29,17 +29,6 @@ use Rattle.counts.specs.Tally.{tallyRefusal, tallied}
 module _ (w h : ℕ) (t : Tables) (r : ℕ) (ws vs : List (List ℕ)) where
   abbrev rest : ℕ
   rest = cond (not (known (t .parent) r)) 8 0
-
-  -- the check refuses
-  count-stops : (v : Verdict) → answered v (five t) vs ≡ checked w h t ws → (x k : ℕ) → answer v ≡ suc k
-      → answered v (five t) vs ≡ outcome (countRefusal w h t r ws) (x ∷ []) (five t) (five t) ws
-  unfolding checked checkRefusal countRefusal used known
-  count-stops v e x k q =
-      let c = sym (number w h t ws vs v e) ∙ q in
-      e
-      ∙ refusing (checkRefusal w h t ws) k [] (x ∷ []) (five t) ws c
-      ∙ ap (λ j. outcome j (x ∷ []) (five t) (five t) ws)
-      (sym (stopped (no-size w h t ws vs) (no-lengths w h t ws vs) (no-drawing w h t ws vs) rest k c))
 
   -- the count's answer tells what the verdict tells
   same-answer : (v : Verdict) (j : ℕ) → answer v ≡ suc j → counted (refused v) (five t) vs ≡ answered v (five t) vs
@@ -52,14 +41,16 @@ module _ (w h : ℕ) (t : Tables) (r : ℕ) (ws vs : List (List ℕ)) where
   pub count-refused : (v : Verdict) (x : ℕ) → OneOf (1 ∷ 2 ∷ 3 ∷ []) (tagOf the-type v)
       → answered v (five t) vs ≡ checked w h t ws
       → counted (refused v) (five t) vs ≡ outcome (countRefusal w h t r ws) (x ∷ []) (five t) (five t) ws
-  count-refused v x p e = let (j, q) = tag-number v p in same-answer v j q ∙ count-stops v e x j q
+  unfolding countRefusal used known
+  count-refused v x p e =
+      let (j, q) = tag-number v p in
+      same-answer v j q ∙ refused-stops w h t ws vs v rest (x ∷ []) (five t) p e
 
   -- it accepts
   module _ (e : answered Verdict.Done (five t) vs ≡ checked w h t ws) where
     goes-on : countRefusal w h t r ws ≡ rest
     unfolding countRefusal used known
-    goes-on =
-        passed (no-size w h t ws vs) (no-lengths w h t ws vs) (no-drawing w h t ws vs) rest (accepted w h t ws vs e) .0
+    goes-on = accepted-on w h t ws vs e rest
 
     pub count-name : (x : ℕ) → known (t .parent) r ≡ false
         → counted Count.Name (five t) vs ≡ outcome (countRefusal w h t r ws) (x ∷ []) (five t) (five t) ws

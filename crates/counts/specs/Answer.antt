@@ -10,7 +10,7 @@ use Rattle.drawing.specs.Answer.{left}
 use Rattle.verdict.specs.declared.judge.Verdict.{Verdict}
 use Rattle.counts.specs.declared.count.Count.{Count}
 
-unfoldable pub count : Count → ℕ
+abbrev pub count : Count → ℕ
 count (Count.Is v) = 0
 count Count.Size = 1
 count Count.Tables = 4

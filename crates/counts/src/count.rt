@@ -11,7 +11,7 @@ ghost use Rattle.drawing.specs.Given.{tables, works};
 ghost use Rattle.enclosure.specs.Tree.{known};
 ghost use Rattle.counts.specs.Tally.{tallied};
 ghost use Rattle.verdict.specs.Answer.{answered};
-ghost use Rattle.counts.specs.Answer.{counted, refused};
+ghost use Rattle.counts.specs.Answer.{count, counted, refused};
 
 // What a count answers: the number, or what is refused.
 pub enum Count {
@@ -24,6 +24,21 @@ pub enum Count {
     Drawing,
     // No region has the name.
     Name,
+}
+
+impl Count {
+    // The number of the refusal, 0 for done.
+    pub fn number(self) -> u16
+        ensures { λ r. ⌜ r ≡ count self ⌝ }
+    {
+        match self {
+            Count::Is(_) => 0,
+            Count::Size => 1,
+            Count::Tables => 4,
+            Count::Drawing => 5,
+            Count::Name => 8,
+        }
+    }
 }
 
 // Whether a name is the outside's or some region's.

@@ -11,7 +11,7 @@ use Rattle.drawing.specs.declared.draw.Drawn.{Drawn}
 abbrev pub left : ℕ → List ℕ → List (List ℕ) → List (List ℕ) → Outcome
 left k vs ts ws = record { number = k; values = vs; tables = ts; work = ws }
 
-unfoldable pub drawing : Drawn → ℕ
+abbrev pub drawing : Drawn → ℕ
 drawing Drawn.Done = 0
 drawing Drawn.Size = 1
 drawing Drawn.Sheet = 3

@@ -24,7 +24,7 @@ ghost use Rattle.enclosure.specs.Tops.{Rising};
 ghost use Rattle.drawing.specs.Given.{tables, works};
 ghost use Rattle.paper.specs.Drawing.{drawing};
 ghost use Rattle.paper.specs.Refusal.{stated, cleared, five, mapped};
-ghost use Rattle.drawing.specs.Answer.{drawn};
+ghost use Rattle.drawing.specs.Answer.{drawing as answer, drawn};
 
 // Level 1 from these names: the masks of the points at the front of a work table, next and side.
 pub fn draw_lines(
@@ -159,6 +159,20 @@ pub enum Drawn {
     Sheet,
     // The length of a lent table or work table is not the stated one.
     Tables,
+}
+
+impl Drawn {
+    // The number of the refusal, 0 for done.
+    pub fn number(self) -> u16
+        ensures { λ r. ⌜ r ≡ answer self ⌝ }
+    {
+        match self {
+            Drawn::Done => 0,
+            Drawn::Size => 1,
+            Drawn::Sheet => 3,
+            Drawn::Tables => 4,
+        }
+    }
 }
 
 // Draws a sheet: its five tables. Refusals 1, 3 and 4, which leave every table as it was; the work tables come out

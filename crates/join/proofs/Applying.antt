@@ -1,34 +1,22 @@
 -- Joining, step by step.
 --   dropped ..      == the links after steps 1 and 2
 use mathlib.Core.Path.{_≡_, _∙_, ap}
-use mathlib.Core.Bool.{Bool, true, false, cond}
-use mathlib.Core.List.{List, [], _∷_}
-use Prim.Native.Nat.{ℕ, _+_, _*_, _≤_, _<_}
-use native.Mathlib.Omega.{arith}
-use lib.ListN.{length, replicate}
+use mathlib.Core.Bool.{Bool, true, cond}
+use mathlib.Core.List.{List}
+use Prim.Native.Nat.{ℕ, _+_, _*_, _<_}
+use lib.ListN.{length}
 use Rattle.laws.specs.Table.{table}
 use Rattle.laws.specs.Least.{lower}
 use Rattle.plane.specs.Dart.{mark, points, slots, reversal}
 use Rattle.paper.specs.Level.{tops, marked}
 use Rattle.paper.specs.Enclosure.{parent, parents}
 use Rattle.paper.specs.Joining.{Links, at, on, shared, removed, pruned, smoothed, closes, closed, joined}
-use Rattle.paper.specs.Refusal.{cleared}
 use Rattle.paper.proofs.Piece.{tops-le}
-use Rattle.join.specs.Links.{links}
-use Rattle.join.specs.Taken.{flagged, flags}
-use Rattle.join.specs.Tops.{Rising}
-use Rattle.join.specs.Apply.{dropped, tables}
+use Rattle.drawing.specs.Given.{tables}
+use Rattle.enclosure.specs.Tops.{Rising}
+use Rattle.removal.specs.Links.{links}
+use Rattle.join.specs.Apply.{dropped}
 use Rattle.join.proofs.Fewer.{dropped-fewer, on-lowered}
-use Rattle.join.proofs.Taking.{flagged-flags, shared-past}
-
--- Step 1.
-pub shared-links : (w h a b m : ℕ) (s n o t : List ℕ) (k : Links) → a < mark → b < mark → length s ≡ slots w h
-    → m ≡ slots w h → t ≡ flags m (shared s (at o) a b) → k ≡ removed w h (links n o) (flagged t)
-    → k ≡ removed w h (links n o) (shared s (at o) a b)
-shared-links w h a b m s n o t k p q l r e f =
-    let past : (d : ℕ) → m ≤ d → shared s (at o) a b d ≡ false =
-    λ d h. shared-past s (at o) a b (λ z. omega arith) (λ z. omega arith) d (omega arith) in
-    f ∙ ap (removed w h (links n o)) (ap flagged e ∙ flagged-flags m (shared s (at o) a b) past)
 
 -- Step 2 after it.
 pub drop-links : (w h a b : ℕ) (s n o : List ℕ) (k j : Links) → k ≡ removed w h (links n o) (shared s (at o) a b)
@@ -76,16 +64,3 @@ module _ (w h a b : ℕ) (n s m o p : List ℕ) (u : a < mark) (v : b < mark) (l
   pub all-steps : tables n₁ s₁ m₁ o₁ p₁ ≡ joined w h (tables n s m o p) a b
   unfolding joined dropped closed
   all-steps = rw (← plain, ← sides, ← drop, ← (rw same-lines at settled), ← found)
-
--- The work tables.
-pub clear-all : (a b c d a₁ b₁ c₁ d₁ : List ℕ) → a₁ ≡ replicate (length a) 0 → b₁ ≡ replicate (length b) 0
-    → c₁ ≡ replicate (length c) 0 → d₁ ≡ replicate (length d) 0
-    → (a₁ ∷ b₁ ∷ c₁ ∷ d₁ ∷ []) ≡ cleared (a ∷ b ∷ c ∷ d ∷ [])
-unfolding cleared
-clear-all a b c d a₁ b₁ c₁ d₁ e f g h = rw (e, f, g, h)
-
--- work tables of the same lengths are cleared to the same
-pub cleared-same : (a b c d a₁ b₁ c₁ d₁ : List ℕ) → length a₁ ≡ length a → length b₁ ≡ length b
-    → length c₁ ≡ length c → length d₁ ≡ length d → cleared (a₁ ∷ b₁ ∷ c₁ ∷ d₁ ∷ []) ≡ cleared (a ∷ b ∷ c ∷ d ∷ [])
-unfolding cleared
-cleared-same a b c d a₁ b₁ c₁ d₁ e f g h = rw (e, f, g, h)

@@ -19,9 +19,10 @@ use Rattle.plane.specs.Dart.{mark, slots}
 use Rattle.paper.specs.Level.{marked}
 use Rattle.paper.specs.Joining.{Links, at, on, shared, chase, removed, hanging, prune, pruned}
 use Rattle.paper.proofs.Marks.{at-below, at-past, at-marked}
-use Rattle.join.specs.Taken.{loose}
+use Rattle.removal.specs.Taken.{loose}
 use Rattle.join.specs.Apply.{dropped}
-use Rattle.join.proofs.Entries.{at-outside, on-mark}
+use Rattle.table.proofs.Entries.{at-out}
+use Rattle.table.proofs.Entries.{on-mark}
 
 module _ (t : List ℕ) (d : ℕ) (e : on t d ≡ true) where
   pub on-no-mark : at t d ≢ mark
@@ -33,7 +34,7 @@ module _ (t : List ℕ) (d : ℕ) (e : on t d ≡ true) where
     where
       go : Dec (d < length t) → d < length t
       go (yes b) = b
-      go (no b) = let h : length t ≤ d = omega arith in absurd (on-no-mark (sym (at-outside t d h)))
+      go (no b) = let h : length t ≤ d = omega arith in absurd (on-no-mark (sym (at-out t d h)))
 
 module _ (w h : ℕ) where
   -- an entry of a marked table is one that is held

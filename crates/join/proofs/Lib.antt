@@ -1,14 +1,7 @@
+pub mod Afresh
+pub mod Answering
 pub mod Applying
-pub mod Closing
-pub mod Corner
-pub mod Entries
 pub mod Fewer
-pub mod Going
-pub mod Half
 pub mod Lowering
-pub mod Pruning
+pub mod Naming
 pub mod Readiness
-pub mod Reversals
-pub mod Sizes
-pub mod Splicing
-pub mod Taking

@@ -12,8 +12,9 @@ use Rattle.laws.specs.Least.{lower}
 use Rattle.laws.proofs.Least.{lower-cases}
 use Rattle.plane.specs.Dart.{mark}
 use Rattle.paper.specs.Joining.{at, on}
-use Rattle.join.proofs.Entries.{at-inside}
-use Rattle.join.proofs.Half.{Half, half-here}
+use Rattle.table.proofs.Entries.{at-in}
+use Rattle.table.proofs.Half.{Half}
+use Rattle.table.proofs.Half.{half-here}
 
 -- a name, by whether it is the larger of a and b
 pub lower-by : (a b v r : ℕ) → (v ≡ max a b → r ≡ min a b) → (v ≢ max a b → r ≡ v) → r ≡ lower a b v
@@ -25,4 +26,4 @@ pub side-more : (l s t : List ℕ) (a b i r : ℕ) → Half (λ d. cond (on l d)
     → r ≡ cond (on l i) (lower a b (at s i)) mark
 unfolding on
 side-more l s t a b i r p e h q =
-    rw (← (at-inside l i (omega arith)), half-here (λ d. cond (on l d) (lower a b (at s d)) mark) i s t p h) q
+    rw (← (at-in l i (omega arith)), half-here (λ d. cond (on l d) (lower a b (at s d)) mark) i s t p h) q

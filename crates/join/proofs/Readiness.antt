@@ -1,22 +1,21 @@
 -- A drawing is ready for the joining of two regions that it has.
 use mathlib.Core.Path.{_≡_, _∙_}
-use mathlib.Core.Bool.{true, _&&_}
-use mathlib.Core.List.{List, [], _∷_}
-use Prim.Native.Nat.{ℕ, _+_, _*_, _<_}
+use mathlib.Core.Bool.{true}
+use mathlib.Core.List.{List}
+use Prim.Native.Nat.{ℕ, _<_}
 use native.Mathlib.Omega.{arith}
-use Rattle.laws.proofs.Test.{and-left, and-right}
 use Rattle.plane.specs.Size.{within}
-use Rattle.plane.specs.Dart.{mark, slots}
+use Rattle.plane.specs.Dart.{mark}
 use Rattle.paper.specs.Name.{names}
 use Rattle.paper.specs.Level.{side, border, next, plain, level}
 use Rattle.paper.specs.Drawing.{Tables, drawn, drawing, Drawn}
 use Rattle.paper.specs.Joining.{on}
-use Rattle.paper.specs.Refusal.{sized, stated, used}
+use Rattle.paper.specs.Refusal.{stated, used}
 use Rattle.paper.proofs.Sheet.{border-below}
 use Rattle.paper.proofs.Marks.{on-marked, cells-slots, within-fits, names-side-small}
+use Rattle.drawing.proofs.Stated.{stated-parent}
 use Rattle.join.specs.Apply.{Ready}
 use Rattle.join.proofs.Fewer.{marked-held, on-below}
-use Rattle.join.proofs.Sizes.{sized-first}
 
 -- every line of a drawing has its sides
 drawing-sided : (w h : ℕ) (s : List ℕ) → within w h ≡ true → (d : ℕ) → on (drawing w h s .next1) d ≡ true
@@ -31,13 +30,9 @@ drawing-sided w h s e d q =
 -- a name that is in use is below the mark
 used-small : (w h : ℕ) (t : Tables) (ws : List (List ℕ)) (a : ℕ) → within w h ≡ true → stated w h t ws ≡ true
     → used t a ≡ true → a < mark
-unfolding stated used
+unfolding used
 used-small w h t ws a e f u =
-    let k = slots w h in
-    let four = sized k (t .next1 ∷ t .side1 ∷ t .next3 ∷ t .other3 ∷ []) in
-    let one = sized (w * h + 1) (t .parent ∷ []) in
-    let l = sized-first (w * h + 1) (t .parent) [] (and-right four one (and-left (four && one) (sized k ws) f)) in
-    omega (arith, on-below (t .parent) a u, cells-slots w h, within-fits w h e)
+    omega (arith, stated-parent w h t ws f, on-below (t .parent) a u, cells-slots w h, within-fits w h e)
 
 pub drawn-ready : (w h : ℕ) (t : Tables) (ws : List (List ℕ)) (a b : ℕ) → within w h ≡ true → stated w h t ws ≡ true
     → Drawn w h t → used t a ≡ true → used t b ≡ true → Ready w h t ws a b

@@ -1,6 +1,5 @@
 -- Joining, as it is done in the tables.
 --   dropped w h s a b l == the links l without the darts of sides a and b, and without hanging ends
---   tables ..       == the five tables of a drawing, one by one
 --   Ready w h t ws a b == the size is one, the tables t and the work tables ws have the stated lengths, a and b may be
 --                      names, and every dart that has a next has a side
 use mathlib.Core.Path.{_≡_}
@@ -15,9 +14,6 @@ use Rattle.paper.specs.Refusal.{stated}
 
 unfoldable pub dropped : ℕ → ℕ → List ℕ → ℕ → ℕ → Links → Links
 dropped w h s a b l = pruned w h (removed w h l (shared s (at (l .other)) a b))
-
-abbrev pub tables : List ℕ → List ℕ → List ℕ → List ℕ → List ℕ → Tables
-tables n s m o p = record { next1 = n; side1 = s; next3 = m; other3 = o; parent = p }
 
 pub record Ready (w h : ℕ) (t : Tables) (ws : List (List ℕ)) (a b : ℕ) : Type 0 where
   pub size : within w h ≡ true

@@ -1,5 +1,3 @@
+pub mod Answer
 pub mod Apply
-pub mod Links
-pub mod Seen
-pub mod Taken
-pub mod Tops
+pub mod Faithful

@@ -1,15 +1,14 @@
-use crate::back;
-use crate::close;
-use crate::entry;
-use crate::parent;
-use crate::prune;
-use crate::shared;
 use crate::side;
-use crate::smooth;
+use closing::close;
+use closing::smooth;
+use enclosure::parent;
 use region::points;
+use removal::back;
+use removal::prune;
+use removal::shared;
+use table::entry;
 ghost use mathlib.Core.Path.{_≡_};
 ghost use mathlib.Core.Bool.{true};
-ghost use mathlib.Core.List.{[], _∷_};
 ghost use Prim.Native.Nat.{_+_, _*_, _<_};
 ghost use lib.ListN.{length};
 ghost use Rattle.laws.specs.Table.{table};
@@ -19,8 +18,9 @@ ghost use Rattle.paper.specs.Level.{tops};
 ghost use Rattle.paper.specs.Enclosure.{parents};
 ghost use Rattle.paper.specs.Joining.{at, on, smoothed, closes, joined};
 ghost use Rattle.paper.specs.Refusal.{cleared};
-ghost use Rattle.join.specs.Links.{links};
-ghost use Rattle.join.specs.Apply.{dropped, tables, Ready};
+ghost use Rattle.drawing.specs.Given.{tables, works};
+ghost use Rattle.removal.specs.Links.{links};
+ghost use Rattle.join.specs.Apply.{dropped, Ready};
 
 // Steps 1 and 2 at a level: the darts with the sides a and b go, then hanging ends. Taken and leaps are work.
 fn drop_lines(
@@ -105,20 +105,6 @@ fn settle(
     parent::find_parents(width, height, side, top, parent);
 }
 
-// The work tables are left with every entry 0.
-fn clear_work(work_a: &mut [u16], work_b: &mut [u16], work_c: &mut [u16], work_d: &mut [u16])
-    ensures { λ _. ⌜
-        (now («work_a» .exit) ∷ now («work_b» .exit) ∷ now («work_c» .exit) ∷ now («work_d» .exit) ∷ []) ≡
-        cleared
-        (now («work_a» .entry) ∷ now («work_b» .entry) ∷ now («work_c» .entry) ∷ now («work_d» .entry) ∷ [])
-        ⌝ }
-{
-    entry::clear(work_a);
-    entry::clear(work_b);
-    entry::clear(work_c);
-    entry::clear(work_d);
-}
-
 // Joining of the regions a and b by the removal rule, in the five tables of a drawing. The work tables are left with
 // every entry 0.
 pub fn apply(
@@ -138,7 +124,7 @@ pub fn apply(
 )
     requires { ⌜
         Ready width height (tables (now next1) (now side1) (now next3) (now other3) (now parent))
-        (now «work_a» ∷ now «work_b» ∷ now «work_c» ∷ now «work_d» ∷ [])
+        (works (now «work_a») (now «work_b») (now «work_c») (now «work_d»))
         a
         b
         ⌝ }
@@ -149,9 +135,9 @@ pub fn apply(
         (now (parent .entry)))
         a
         b) ×
-        ((now («work_a» .exit) ∷ now («work_b» .exit) ∷ now («work_c» .exit) ∷ now («work_d» .exit) ∷ []) ≡
+        (works (now («work_a» .exit)) (now («work_b» .exit)) (now («work_c» .exit)) (now («work_d» .exit)) ≡
         cleared
-        (now («work_a» .entry) ∷ now («work_b» .entry) ∷ now («work_c» .entry) ∷ now («work_d» .entry) ∷ []))
+        (works (now («work_a» .entry)) (now («work_b» .entry)) (now («work_c» .entry)) (now («work_d» .entry))))
         ⌝ }
 {
     drop_plain_lines(width, height, a, b, side1, next1, work_a, work_b, work_c);
@@ -168,5 +154,5 @@ pub fn apply(
         parent,
         &mut work_d[..n],
     );
-    clear_work(work_a, work_b, work_c, work_d);
+    entry::clear_four(work_a, work_b, work_c, work_d);
 }

@@ -1,12 +1,5 @@
-// Joining two regions of a drawing: the removal rule, step by step, in the drawing's own tables.
+// Joining two regions of a drawing: the removal rule in the drawing's own tables.
+mod adjoin;
 pub mod apply;
-mod back;
-mod close;
-mod ends;
-mod entry;
-mod parent;
-mod prune;
-mod remove;
-mod shared;
+pub mod regions;
 mod side;
-mod smooth;

@@ -133,6 +133,9 @@ beside-claims =
     ∷ record { computed = accepted 3 3 (drawing 3 3 p5); stated = 1 ∷ [] }
     ∷ record { computed = accepted 3 3 (joined 3 3 (drawing 3 3 p8) 1 2); stated = 1 ∷ [] }
     ∷ record { computed = accepted 2 1 (drawing 2 2 p7); stated = 0 ∷ [] }
+    -- depth and hole count of the outside, of a ring and of what the ring encloses
+    ∷ record { computed = map (depth ((drawing 3 3 p5) .parent)) (0 ∷ 1 ∷ 5 ∷ []); stated = 0 ∷ 1 ∷ 2 ∷ [] }
+    ∷ record { computed = map (holes ((drawing 3 3 p5) .parent)) (0 ∷ 1 ∷ 5 ∷ []); stated = 1 ∷ 1 ∷ 0 ∷ [] }
     ∷ []
 
 -- opens every definition that the claims compute with

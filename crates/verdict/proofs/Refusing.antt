@@ -76,10 +76,11 @@ passed false true c x e = absurd (omega arith)
 passed false false true x e = absurd (omega arith)
 passed false false false x e = (refl, refl, refl, refl)
 
--- a refusal's outcome has no values
-pub refusing : (k j : ℕ) (vs us : List ℕ) (ts ws : List (List ℕ)) → k ≡ suc j → outcome k vs ts ts ws ≡ outcome k us ts ts ws
+-- a refusal's outcome has no values, and leaves the tables
+pub refusing : (k j : ℕ) (vs us : List ℕ) (ts rs ws : List (List ℕ)) → k ≡ suc j
+    → outcome k vs ts ts ws ≡ outcome k us ts rs ws
 unfolding outcome
-refusing k j vs us ts ws e = rw e
+refusing k j vs us ts rs ws e = rw e
 
 -- the number of a verdict that is not done
 pub tag-number : (v : Verdict) → OneOf (1 ∷ 2 ∷ 3 ∷ []) (tagOf the-type v) → (j : ℕ) × (answer v ≡ suc j)
@@ -110,6 +111,10 @@ module _ (w h : ℕ) (t : Tables) (ws vs : List (List ℕ)) where
     unfolding answered checked
     work = ap (λ (o : Outcome). o .work) e ∙ outcome-work (checkRefusal w h t ws) [] (five t) (five t) ws
 
+  pub accepted-done : (v : Verdict) → v ≡ Verdict.Done → answered v (five t) vs ≡ checked w h t ws
+      → answered Verdict.Done (five t) vs ≡ checked w h t ws
+  accepted-done v d c = rw d at c
+
   -- it accepts
   module _ (e : answered Verdict.Done (five t) vs ≡ checked w h t ws) where
     pub accepted : tests no-size no-lengths no-drawing 0 ≡ 0
@@ -128,3 +133,19 @@ module _ (w h : ℕ) (t : Tables) (ws vs : List (List ℕ)) where
     pub accepted-work : vs ≡ cleared ws
     unfolding work-left checkRefusal
     accepted-work = rw accepted at (work Verdict.Done e)
+
+    -- a call that tests more after it, to the number x
+    pub accepted-on : (x : ℕ) → tests no-size no-lengths no-drawing x ≡ x
+    accepted-on x = passed no-size no-lengths no-drawing x accepted .0
+
+  -- it refuses, and so does such a call
+  pub refused-stops : (v : Verdict) (x : ℕ) (ns : List ℕ) (us : List (List ℕ)) → OneOf (1 ∷ 2 ∷ 3 ∷ []) (tagOf the-type v)
+      → answered v (five t) vs ≡ checked w h t ws
+      → answered v (five t) vs ≡ outcome (tests no-size no-lengths no-drawing x) ns (five t) us ws
+  unfolding checked checkRefusal
+  refused-stops v x ns us p e =
+      let (k, q) = tag-number v p in
+      let c = sym (number v e) ∙ q in
+      e
+      ∙ refusing (checkRefusal w h t ws) k [] ns (five t) us ws c
+      ∙ ap (λ j. outcome j ns (five t) us ws) (sym (stopped no-size no-lengths no-drawing x k c))

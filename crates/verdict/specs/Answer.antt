@@ -8,7 +8,7 @@ use Rattle.paper.specs.Refusal.{Outcome}
 use Rattle.drawing.specs.Answer.{left}
 use Rattle.verdict.specs.declared.judge.Verdict.{Verdict}
 
-unfoldable pub answer : Verdict → ℕ
+abbrev pub answer : Verdict → ℕ
 answer Verdict.Done = 0
 answer Verdict.Size = 1
 answer Verdict.Tables = 4

@@ -14,7 +14,7 @@ ghost use Rattle.paper.specs.Refusal.{stated, cleared, five};
 ghost use Rattle.drawing.specs.Given.{tables, works};
 ghost use Rattle.drawing.specs.Parts.{masksOf, linesAgree, curvesAgree};
 ghost use Rattle.verdict.specs.Check.{checked};
-ghost use Rattle.verdict.specs.Answer.{answered};
+ghost use Rattle.verdict.specs.Answer.{answer, answered};
 
 // What a check of a drawing answers: done, or what is refused.
 pub enum Verdict {
@@ -25,6 +25,20 @@ pub enum Verdict {
     Tables,
     // The tables are the drawing of no sheet of this size.
     Drawing,
+}
+
+impl Verdict {
+    // The number of the refusal, 0 for done.
+    pub fn number(self) -> u16
+        ensures { λ r. ⌜ r ≡ answer self ⌝ }
+    {
+        match self {
+            Verdict::Done => 0,
+            Verdict::Size => 1,
+            Verdict::Tables => 4,
+            Verdict::Drawing => 5,
+        }
+    }
 }
 
 // Whether next and side of level 1 are those of the sheet whose labels the sides tell. The masks of the points come out

@@ -1,5 +1,6 @@
 use Rattle.counts.proofs.Counting.{tally-size, tally-first, tally-second, tally-refused, tally-done}
-use Rattle.counts.proofs.Accepted.{accepted-done, accepted-all}
+use Rattle.verdict.proofs.Refusing.{accepted-done}
+use Rattle.counts.proofs.Accepted.{accepted-all}
 use mathlib.Core.Path.{sym, _∙_}
 use native.Mathlib.Omega.{arith}
 use borrow.Author.Tests.{not-true, not-false}

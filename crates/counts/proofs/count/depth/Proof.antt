@@ -1,5 +1,6 @@
 use Rattle.counts.proofs.Counting.{count-refused, count-name, count-is}
-use Rattle.counts.proofs.Accepted.{accepted-done, accepted-known}
+use Rattle.verdict.proofs.Refusing.{accepted-done}
+use Rattle.counts.proofs.Accepted.{accepted-known}
 use mathlib.Core.Path.{sym, _∙_}
 use borrow.Author.Tests.{not-true, not-false}
 use Rattle.paper.specs.Refusal.{deepened}

@@ -6,8 +6,9 @@ use lib.Seq.{length-take-le, length-front}
 use Rattle.plane.specs.Dart.{points, slots}
 use Rattle.plane.proofs.Limit.{within-limits}
 use Rattle.plane.proofs.Fit.{points-fit}
-use Rattle.join.proofs.Applying.{all-steps, cleared-same}
-use Rattle.join.proofs.Sizes.{stated-sizes}
+use Rattle.table.proofs.Cleared.{cleared-same}
+use Rattle.drawing.proofs.Stated.{stated-long}
+use Rattle.join.proofs.Applying.{all-steps}
 use Rattle.join.proofs.apply.apply.Statement.{statement}
 use Rattle.join.proofs.apply.apply.Tie as tie
 
@@ -28,39 +29,47 @@ lined c = c .before .before .before .before .before .before .before .before .bef
 abbrev lowered : tie.After-settle → tie.After-lower-sides
 lowered c = c .before .before .before .before .before .before .before .before .before
 
-abbrev settled : tie.After-clear-work → tie.After-settle
+abbrev settled : tie.After-clear-four → tie.After-settle
 settled c =
     c .before .before .before .before .before .before .before .before .before .before .before .before
     .before
 
-abbrev cleared : tie.After-slice-known26 → tie.After-clear-work
+abbrev cleared : tie.After-slice-known26 → tie.After-clear-four
 cleared c = c .before .before .before .before .before .before .before .before
 
 -- A work table has room for the tops.
 work-room : (c : tie.Start) → (c .args .width + 1) * (c .args .height + 1) ≤ length (c .args .work-d .now)
 unfolding slots points
-work-room c = let z = stated-sizes _ _ _ _ _ _ _ _ _ _ _ (c .pre .sizes) in omega (arith, z .work-d)
+work-room c = let z = stated-long _ _ _ _ _ _ _ _ _ _ _ (c .pre .sizes) in omega (arith, z .work .3)
 
 drop-plain-lines-requires : tie.Need-drop-plain-lines-requires
 drop-plain-lines-requires c κs =
     let b = c .before .before .before .before .before .before .before .before .before .before .before .before in
     let q = b .before .before .pre in
-    let z = stated-sizes _ _ _ _ _ _ _ _ _ _ _ (q .sizes) in
-    (q .size, q .first, q .second, z .side1, z .next1, z .work-a, z .work-b, z .work-c)
+    let z = stated-long _ _ _ _ _ _ _ _ _ _ _ (q .sizes) in
+    (q .size, q .first, q .second, z .lines .1, z .lines .0, z .work .0, z .work .1, z .work .2)
 
 drop-lines-requires : tie.Need-drop-lines-requires
 drop-lines-requires c κs =
     let b = c .before .before .before .before .before .before .before .before .before .before .before .before .before in
     let q = start b .pre in
-    let z = stated-sizes _ _ _ _ _ _ _ _ _ _ _ (q .sizes) in
-    let k = b .drop-plain-lines .kept .1 .1 .1 .1 .1 .1 .1 in
-    (q .size, q .first, q .second, z .side1, z .next3, z .other3, k .0 ∙ z .work-b, k .1 .0 ∙ z .work-c)
+    let z = stated-long _ _ _ _ _ _ _ _ _ _ _ (q .sizes) in
+    let k = b .drop-plain-lines .kept .1 .1 .1 .1 .1 .1 .1 in (
+      q .size,
+      omega (arith, q .first, q .second),
+      omega (arith, q .first, q .second),
+      z .lines .1,
+      z .lines .2,
+      z .lines .3,
+      k .0 ∙ z .work .1,
+      k .1 .0 ∙ z .work .2,
+    )
 
 lower-sides-requires : tie.Need-lower-sides-requires
 lower-sides-requires c κs =
     let b = plain (c .before .before .before .before .before .before .before .before .before .before) in
-    let z = stated-sizes _ _ _ _ _ _ _ _ _ _ _ (start b .pre .sizes) in
-    b .drop-plain-lines .kept .1 .1 .1 .1 .1 .0 ∙ z .next1 ∙ sym (z .side1)
+    let z = stated-long _ _ _ _ _ _ _ _ _ _ _ (start b .pre .sizes) in
+    b .drop-plain-lines .kept .1 .1 .1 .1 .1 .0 ∙ z .lines .0 ∙ sym (z .lines .1)
 
 add-n : tie.Need-add-n
 add-n c = omega (arith, within-limits _ _ (start (plain (lined (c .before .before))) .pre .size))
@@ -91,12 +100,12 @@ unfolding points
 settle-requires c κs =
     let b = c .before .before .before .before .before .before .before .before in
     let a = start (plain (lined b)) in
-    let z = stated-sizes _ _ _ _ _ _ _ _ _ _ _ (a .pre .sizes) in
+    let z = stated-long _ _ _ _ _ _ _ _ _ _ _ (a .pre .sizes) in
     let t = length-take-le _ _ (work-room a) in
-    (a .pre .size, b .lower-sides .kept .1 .1 .1 .0 ∙ z .side1, z .parent, t)
+    (a .pre .size, b .lower-sides .kept .1 .1 .1 .0 ∙ z .lines .1, z .names, t)
 
-clear-work-requires : tie.Need-clear-work-requires
-clear-work-requires c κs = tt
+clear-four-requires : tie.Need-clear-four-requires
+clear-four-requires c κs = tt
 
 -- Each table keeps its length.
 same-length : tie.Need-same-length
@@ -121,18 +130,18 @@ same-length-5 c = settled (cleared c) .settle .kept .1 .1 .1 .1 .1 .1 .0
 same-length-6 : tie.Need-same-length-6
 same-length-6 c =
     let b = plain (lined (lowered (settled (cleared c)))) in
-    cleared c .clear-work .kept .0 ∙ b .drop-plain-lines .kept .1 .1 .1 .1 .1 .1 .0
+    cleared c .clear-four .kept .0 ∙ b .drop-plain-lines .kept .1 .1 .1 .1 .1 .1 .0
 
 same-length-7 : tie.Need-same-length-7
 same-length-7 c =
     let l = lined (lowered (settled (cleared c))) in
-    cleared c .clear-work .kept .1 .0 ∙ l .drop-lines .kept .1 .1 .1 .1 .1 .1 .1 .0
+    cleared c .clear-four .kept .1 .0 ∙ l .drop-lines .kept .1 .1 .1 .1 .1 .1 .1 .0
     ∙ plain l .drop-plain-lines .kept .1 .1 .1 .1 .1 .1 .1 .0
 
 same-length-8 : tie.Need-same-length-8
 same-length-8 c =
     let l = lined (lowered (settled (cleared c))) in
-    cleared c .clear-work .kept .1 .1 .0 ∙ l .drop-lines .kept .1 .1 .1 .1 .1 .1 .1 .1 .0
+    cleared c .clear-four .kept .1 .1 .0 ∙ l .drop-lines .kept .1 .1 .1 .1 .1 .1 .1 .1 .0
     ∙ plain l .drop-plain-lines .kept .1 .1 .1 .1 .1 .1 .1 .1 .0
 
 same-length-9 : tie.Need-same-length-9
@@ -140,7 +149,7 @@ same-length-9 c =
     let s = settled (cleared c) in
     let a = start (plain (lined (lowered s))) .args in
     let top = s .settle .last .1 .1 .1 .1 .1 .1 .1 .0 in
-    cleared c .clear-work .kept .1 .1 .1 .0
+    cleared c .clear-four .kept .1 .1 .1 .0
     ∙ length-front (a .work-d .now) top ((a .width + 1) * (a .height + 1)) (s .settle .kept .1 .1 .1 .1 .1 .1 .1 .0)
 
 returns : tie.Need-returns
@@ -148,15 +157,15 @@ returns c =
     let s = settled (cleared c) in
     let l = lined (lowered s) in
     let a = start (plain l) in
-    let z = stated-sizes _ _ _ _ _ _ _ _ _ _ _ (a .pre .sizes) in
+    let z = stated-long _ _ _ _ _ _ _ _ _ _ _ (a .pre .sizes) in
     let d = plain l .drop-plain-lines in
     let e = l .drop-lines in
     let f = d .kept .1 .1 .1 .1 .1 .1 in
     let g = e .kept .1 .1 .1 .1 .1 .1 .1 in
     let top = s .settle .last .1 .1 .1 .1 .1 .1 .1 .0 in (
-      all-steps _ _ _ _ _ _ _ _ _ (a .pre .first) (a .pre .second) (z .side1) (a .pre .sided) _ _ _ _ _ _ (d .ensures)
+      all-steps _ _ _ _ _ _ _ _ _ (a .pre .first) (a .pre .second) (z .lines .1) (a .pre .sided) _ _ _ _ _ _ (d .ensures)
           (e .ensures) (lowered s .lower-sides .ensures) (s .settle .ensures .0) (s .settle .ensures .1),
-      cleared c .clear-work .ensures
+      cleared c .clear-four .ensures
           ∙ cleared-same _ _ _ _ _ _ _ _ (f .0) (g .0 ∙ f .1 .0) (g .1 .0 ∙ f .1 .1 .0)
           (length-front (a .args .work-d .now) top ((a .args .width + 1) * (a .args .height + 1))
           (s .settle .kept .1 .1 .1 .1 .1 .1 .1 .0)),
@@ -176,7 +185,7 @@ apply-spec =
     slice-relend-prefix-settle
     slice-aggregate-settle
     settle-requires
-    clear-work-requires
+    clear-four-requires
     same-length
     same-length-2
     same-length-3

@@ -6,7 +6,7 @@ use Rattle.laws.specs.Least.{lower}
 use Rattle.plane.specs.Dart.{mark}
 use Rattle.paper.specs.Joining.{at, on}
 use Rattle.join.proofs.Lowering.{side-more}
-use Rattle.join.proofs.Half.{Half, half-none, half-more, half-all}
+use Rattle.table.proofs.Half.{Half, half-none, half-more, half-all}
 use Rattle.join.proofs.side.lower_sides.Statement.{statement}
 use Rattle.join.proofs.side.lower_sides.Tie as tie
 

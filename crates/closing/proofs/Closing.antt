@@ -1,0 +1,76 @@
+-- Step 4: a loop's point that has only two lines left.
+--   moved l u v e f == the links with darts e and f for darts u and v, a loop
+--   close o t l p   == the links with the loop at point p moved to its top, where p has only two lines left
+--   Rising t        == no point's top is after the point
+use mathlib.Core.Path.{_≡_, refl, sym, _∙_, ap}
+use mathlib.Core.Bool.{Bool, true, false}
+use mathlib.Core.List.{List}
+use Prim.Native.Nat.{ℕ, zero, suc, _<_}
+use native.Mathlib.Omega.{arith}
+use lib.Dec.{eqb}
+use lib.ListN.{set, getD}
+use borrow.Author.Tests.{eq-eqb, ne-eqb}
+use Rattle.plane.specs.Dart.{mark, dart}
+use Rattle.plane.specs.Point.{degree}
+use Rattle.paper.specs.Level.{mask}
+use Rattle.paper.specs.Joining.{Links, at, on, low, high, moved, close, closes}
+use Rattle.removal.specs.Links.{links}
+use Rattle.removal.specs.Seen.{SeenAt}
+use Rattle.enclosure.specs.Tops.{Rising}
+
+-- the two stores into each table
+pub move-loop : (n o n₁ n₂ o₁ o₂ : List ℕ) (u v e f : ℕ) → n₁ ≡ set (set n u mark) v mark → n₂ ≡ set (set n₁ e e) f f
+    → o₁ ≡ set (set o u mark) v mark → o₂ ≡ set (set o₁ e f) f e → links n₂ o₂ ≡ moved (links n o) u v e f
+unfolding moved
+move-loop n o n₁ n₂ o₁ o₂ u v e f a b c d = rw (b, d, a, c)
+
+-- no top is after its point
+pub top-fit : (t : List ℕ) (p : ℕ) → Rising t → dart p 3 < mark → dart (getD t p 0) 3 < mark
+unfolding dart
+top-fit t p r h = let u = r .up p in omega arith
+
+-- a point is treated by what is seen there
+module _ (o : ℕ → Bool) (t : List ℕ) (l : Links) (p c u v : ℕ) (s : SeenAt (mask (on (l .next)) p) p c u v) where
+  pub close-other : (c ≡ 2 → ⊥) → l ≡ close o t l p
+  unfolding close
+  close-other n = rw (ne-eqb (degree (mask (on (l .next)) p)) 2 (λ q. n (s .many ∙ q)), close)
+
+  module _ (two : c ≡ 2) (x : ℕ) (e : x ≡ at (l .other) u) where
+    here : eqb (degree (mask (on (l .next)) p)) 2 ≡ true
+    here = eq-eqb (degree (mask (on (l .next)) p)) 2 (sym (s .many) ∙ two)
+
+    abbrev ends : Bool
+    ends = eqb (at (l .other) (dart p (low (mask (on (l .next)) p)))) (dart p (high (mask (on (l .next)) p)))
+
+    across : at (l .other) (dart p (low (mask (on (l .next)) p))) ≡ x
+    across = ap (at (l .other)) (sym (s .first)) ∙ sym e
+
+    pub close-edges : (x ≡ v → ⊥) → l ≡ close o t l p
+    unfolding close
+    close-edges n =
+        let f : ends ≡ false = ne-eqb _ _ (λ q. n (sym across ∙ q ∙ sym (s .last))) in
+        rw (here, f, close)
+
+    module _ (loop : x ≡ v) (b y z : ℕ) (r : SeenAt (mask o p) p b y z) where
+      round : ends ≡ true
+      round = eq-eqb _ _ (across ∙ loop ∙ s .last)
+
+      pub close-big : (b ≡ 2 → ⊥) → l ≡ close o t l p
+      unfolding close
+      close-big n = rw (here, round, ne-eqb (degree (mask o p)) 2 (λ q. n (r .many ∙ q)), close)
+
+      pub close-loop : b ≡ 2 → (k e f : ℕ) → SeenAt (mask o (getD t p 0)) (getD t p 0) k e f
+          → moved l u v e f ≡ close o t l p
+      unfolding close
+      close-loop h k e f a =
+          let two = eq-eqb (degree (mask o p)) 2 (sym (r .many) ∙ h) in
+          rw (here, round, two, s .first, s .last, a .first, a .last, close)
+
+module _ (o : ℕ → Bool) (t : List ℕ) where
+  pub closes-none : (p : ℕ) (l : Links) → closes o t zero p l ≡ l
+  unfolding closes
+  closes-none p l = refl
+
+  pub closes-more : (n p : ℕ) (l : Links) → closes o t (suc n) p l ≡ closes o t n (suc p) (close o t l p)
+  unfolding closes
+  closes-more n p l = refl

@@ -1,0 +1,87 @@
+use Prim.Native.Nat.{_-_}
+use native.Mathlib.Omega.{arith}
+use Rattle.plane.specs.Dart.{points}
+use Rattle.plane.proofs.Limit.{within-limits}
+use Rattle.paper.specs.Joining.{on, close, closes}
+use Rattle.plane.proofs.Fit.{points-fit, darts-fit}
+use Rattle.removal.specs.Links.{links}
+use Rattle.closing.proofs.Closing.{closes-none, closes-more}
+use Rattle.closing.proofs.Going.{Going, going-start, going-on, going-end}
+use Rattle.closing.proofs.close.close.Statement.{statement}
+use Rattle.closing.proofs.close.close.Tie as tie
+
+abbrev Inv-loop : tie.InvT-loop
+Inv-loop width height lines tops next₀ other₀ n p₀ next other p =
+    Going (closes (on lines) tops) n p (links next₀ other₀) (links next other)
+
+abbrev μ-loop : tie.MeasureT-loop
+μ-loop width height lines tops next₀ other₀ n p₀ next other p = n - p
+
+add-n : tie.Need-add-n Inv-loop μ-loop
+add-n c = omega (arith, within-limits _ _ (c .before .before .before .before .pre .0))
+
+add-n-2 : tie.Need-add-n-2 Inv-loop μ-loop
+add-n-2 c = omega (arith, within-limits _ _ (c .before .before .before .before .pre .0))
+
+mul-n : tie.Need-mul-n Inv-loop μ-loop
+unfolding points
+mul-n c = omega (arith, points-fit _ _ (c .before .before .before .before .pre .0))
+
+loop-holds : tie.Need-loop-holds Inv-loop μ-loop
+loop-holds c = going-start _ _ _
+
+close-point-requires : tie.Need-close-point-requires Inv-loop μ-loop
+unfolding points
+close-point-requires c κs =
+    let q = c .before .before .before .before .before .before .before .before .pre in
+    let b = c .before .before .loop-test .taken in
+    (darts-fit _ _ (q .0) _ b .0, omega (arith, q .1), q .2)
+
+add-p : tie.Need-add-p Inv-loop μ-loop
+unfolding points
+add-p c =
+    let c7 = c .before .before .before .before .before .before .before in
+    let c13 = c7 .before .before .before .before .before .before in
+    omega (arith, points-fit _ _ (c13 .pre .0), c7 .loop-test .taken)
+
+loop-less : tie.Need-loop-less Inv-loop μ-loop
+loop-less c = omega (arith, c .before .before .before .before .before .before .before .loop-test .taken)
+
+loop-again : tie.Need-loop-again Inv-loop μ-loop
+loop-again c =
+    let c4 = c .before .before .before .before in
+    let c7 = c4 .before .before .before in
+    let c8 = c7 .before in
+    let g = c4 .close-point in
+    going-on (closes (on _) _) (close (on _) _) (closes-none _ _) (closes-more _ _) _ _ _ _ (c8 .loop .inv)
+    (c7 .loop-test .taken) _ (g .ensures) (g .kept .1 .1 .0) (g .kept .1 .1 .1 .0)
+
+same-length : tie.Need-same-length Inv-loop μ-loop
+same-length c = c .before .loop .inv .nexts
+
+same-length-2 : tie.Need-same-length-2 Inv-loop μ-loop
+same-length-2 c = c .before .loop .inv .others
+
+returns : tie.Need-returns Inv-loop μ-loop
+unfolding points
+returns c =
+    going-end (closes (on _) _) (close (on _) _) (closes-none _ _) (closes-more _ _) _ _ _ _ (c .before .loop .inv)
+    (c .loop-test .left)
+
+pub close-spec : {M : Type 1} → statement M
+close-spec =
+    tie.close
+    (tie.spec
+    Inv-loop
+    μ-loop
+    add-n
+    add-n-2
+    mul-n
+    loop-holds
+    close-point-requires
+    add-p
+    loop-less
+    loop-again
+    same-length
+    same-length-2
+    returns)

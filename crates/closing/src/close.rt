@@ -1,0 +1,75 @@
+use plane::dart;
+use removal::ends;
+use table::entry;
+ghost use mathlib.Core.Path.{_≡_};
+ghost use mathlib.Core.Bool.{true};
+ghost use Prim.Native.Nat.{_<_};
+ghost use lib.ListN.{length};
+ghost use Rattle.plane.specs.Size.{within};
+ghost use Rattle.plane.specs.Dart.{mark, points, dart};
+ghost use Rattle.paper.specs.Joining.{on, moved, close, closes};
+ghost use Rattle.removal.specs.Links.{links};
+ghost use Rattle.enclosure.specs.Tops.{Rising};
+
+// Darts u and v give way to darts e and f, each its own next and each the other of the other.
+fn move_loop(next: &mut [u16], other: &mut [u16], u: u16, v: u16, e: u16, f: u16)
+    ensures { λ _. ⌜
+        links (now (next .exit)) (now (other .exit)) ≡ moved (links (now (next .entry)) (now (other .entry))) u v e f
+        ⌝ }
+{
+    entry::put_pair(next, u, dart::MARK, v, dart::MARK);
+    entry::put_pair(next, e, e, f, f);
+    entry::put_pair(other, u, dart::MARK, v, dart::MARK);
+    entry::put_pair(other, e, f, f, e);
+}
+
+// A loop's point that has only two lines left gives way to the top of its piece.
+fn close_point(lines: &[u16], tops: &[u16], next: &mut [u16], other: &mut [u16], point: u16)
+    requires { ⌜ (dart point 3 < mark) × (point < length (now tops)) × Rising (now tops) ⌝ }
+    ensures { λ _. ⌜
+        links (now (next .exit)) (now (other .exit)) ≡
+        close (on (now (lines .entry))) (now (tops .entry)) (links (now (next .entry)) (now (other .entry))) point
+        ⌝ }
+{
+    let seen = ends::seen(next, point);
+    if seen.count != 2 {
+        return;
+    }
+    let u = seen.first;
+    let v = seen.last;
+    let x = entry::get(other, u);
+    if x != v {
+        return;
+    }
+    let left = ends::seen(lines, point);
+    if left.count != 2 {
+        return;
+    }
+    let anchor = ends::seen(lines, tops[point as usize]);
+    move_loop(next, other, u, v, anchor.first, anchor.last);
+}
+
+// Step 4: the darts of each closed curve move to its anchor. Lines has entries for the lines that remain, tops the tops
+// of their pieces.
+pub fn close(
+    width: u16,
+    height: u16,
+    lines: &[u16],
+    tops: &[u16],
+    next: &mut [u16],
+    other: &mut [u16],
+)
+    requires { ⌜ (within width height ≡ true) × (length (now tops) ≡ points width height) × Rising (now tops) ⌝ }
+    ensures { λ _. ⌜
+        links (now (next .exit)) (now (other .exit)) ≡
+        closes (on (now (lines .entry))) (now (tops .entry)) (points width height) 0
+        (links (now (next .entry)) (now (other .entry)))
+        ⌝ }
+{
+    let n = (width + 1) * (height + 1);
+    let mut p: u16 = 0;
+    while p < n {
+        close_point(lines, tops, next, other, p);
+        p += 1;
+    }
+}

@@ -1,0 +1,3 @@
+// The third and fourth step of the removal rule: points that two edges meet at go, closed curves move to their anchors.
+pub mod close;
+pub mod smooth;

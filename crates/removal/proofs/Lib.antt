@@ -1,0 +1,4 @@
+pub mod Pruning
+pub mod Reversals
+pub mod Seeing
+pub mod Taking

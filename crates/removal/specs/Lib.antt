@@ -1,0 +1,3 @@
+pub mod Links
+pub mod Seen
+pub mod Taken
