@@ -1,3 +1,4 @@
 pub mod Closing
 pub mod Going
+pub mod Lowering
 pub mod Splicing

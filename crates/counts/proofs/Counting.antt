@@ -32,7 +32,7 @@ module _ (w h : ℕ) (t : Tables) (r : ℕ) (ws vs : List (List ℕ)) where
 
   -- the count's answer tells what the verdict tells
   same-answer : (v : Verdict) (j : ℕ) → answer v ≡ suc j → counted (refused v) (five t) vs ≡ answered v (five t) vs
-  unfolding answer answered count values counted refused
+  unfolding answered count values counted refused
   same-answer Verdict.Done j p = absurd (omega arith)
   same-answer Verdict.Size j p = refl
   same-answer Verdict.Tables j p = refl
@@ -72,12 +72,12 @@ module _ (w h : ℕ) (t : Tables) (ds hs : List ℕ) (ws : List (List ℕ)) wher
   kept = five t ++ ds ∷ hs ∷ []
 
   pub tally-size : within w h ≡ false → answered Verdict.Size kept ws ≡ tallied w h t ds hs ws
-  unfolding answered answer tallied tallyRefusal outcome
+  unfolding answered tallied tallyRefusal outcome
   tally-size e = rw e
 
   module _ (e : within w h ≡ true) where
     unsized : sized (w * h + 1) (ds ∷ hs ∷ []) ≡ false → answered Verdict.Tables kept ws ≡ tallied w h t ds hs ws
-    unfolding answered answer tallied tallyRefusal outcome
+    unfolding answered tallied tallyRefusal outcome
     unsized f = rw (e, f, and-false (stated w h t ws))
 
     pub tally-first : length ds ≢ w * h + 1 → answered Verdict.Tables kept ws ≡ tallied w h t ds hs ws
@@ -105,6 +105,6 @@ module _ (w h : ℕ) (t : Tables) (ds hs : List ℕ) (ws : List (List ℕ)) wher
         pub tally-done : answered Verdict.Done (five t) vs ≡ checked w h t ws → (ds′ hs′ : List ℕ)
             → ds′ ≡ counts depth (t .parent) → hs′ ≡ counts holes (t .parent)
             → answered Verdict.Done (five t ++ ds′ ∷ hs′ ∷ []) vs ≡ tallied w h t ds hs ws
-        unfolding answered answer tallied outcome
+        unfolding answered tallied outcome
         tally-done e ds′ hs′ p q =
             rw (same-tests, ← number w h t ws vs Verdict.Done e, p, q, accepted-work w h t ws vs e)

@@ -2,6 +2,5 @@ pub mod Afresh
 pub mod Answering
 pub mod Applying
 pub mod Fewer
-pub mod Lowering
 pub mod Naming
 pub mod Readiness

@@ -1,5 +1,5 @@
-use crate::side;
 use closing::close;
+use closing::side;
 use closing::smooth;
 use enclosure::parent;
 use region::points;

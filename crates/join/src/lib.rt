@@ -2,4 +2,3 @@
 mod adjoin;
 pub mod apply;
 pub mod regions;
-mod side;

@@ -1,0 +1,49 @@
+use Rattle.verdict.specs.Answer.{answered}
+use borrow.Author.Needs.{needs}
+use Rattle.raimenolta.proofs.drawings.raimenolta_counts.Statement.{statement}
+use Rattle.raimenolta.proofs.drawings.raimenolta_counts.Tie as tie
+
+counts-requires : tie.Need-counts-requires
+counts-requires c κs = search needs
+
+number-requires : tie.Need-number-requires
+number-requires c κs = search needs
+
+same-length : tie.Need-same-length
+same-length c = search needs
+
+same-length-2 : tie.Need-same-length-2
+same-length-2 c = search needs
+
+same-length-3 : tie.Need-same-length-3
+same-length-3 c = search needs
+
+same-length-4 : tie.Need-same-length-4
+same-length-4 c = search needs
+
+same-length-5 : tie.Need-same-length-5
+same-length-5 c = search needs
+
+same-length-6 : tie.Need-same-length-6
+same-length-6 c = search needs
+
+returns : tie.Need-returns
+unfolding answered
+returns c =
+    rw (c .number .ensures)
+    (c .before .before .before .before .before .before .before .before .before .before .before .before .before
+    .counts .ensures)
+
+pub raimenolta-counts-spec : {M : Type 1} → statement M
+raimenolta-counts-spec =
+    tie.close
+    (tie.spec
+    counts-requires
+    number-requires
+    same-length
+    same-length-2
+    same-length-3
+    same-length-4
+    same-length-5
+    same-length-6
+    returns)

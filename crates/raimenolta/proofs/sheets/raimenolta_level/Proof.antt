@@ -1,0 +1,53 @@
+use Rattle.level.specs.Draw.{told}
+use borrow.Author.Needs.{needs}
+use Rattle.raimenolta.proofs.sheets.raimenolta_level.Statement.{statement}
+use Rattle.raimenolta.proofs.sheets.raimenolta_level.Tie as tie
+
+draw-requires : tie.Need-draw-requires
+draw-requires c κs = search needs
+
+number-requires : tie.Need-number-requires
+number-requires c κs = search needs
+
+same-length : tie.Need-same-length
+same-length c = search needs
+
+same-length-2 : tie.Need-same-length-2
+same-length-2 c = search needs
+
+same-length-3 : tie.Need-same-length-3
+same-length-3 c = search needs
+
+same-length-4 : tie.Need-same-length-4
+same-length-4 c = search needs
+
+same-length-5 : tie.Need-same-length-5
+same-length-5 c = search needs
+
+same-length-6 : tie.Need-same-length-6
+same-length-6 c = search needs
+
+same-length-7 : tie.Need-same-length-7
+same-length-7 c = search needs
+
+returns : tie.Need-returns
+unfolding told
+returns c =
+    rw (c .number .ensures)
+    (c .before .before .before .before .before .before .before .before .before .before .before .before .before
+    .before .before .draw .ensures)
+
+pub raimenolta-level-spec : {M : Type 1} → statement M
+raimenolta-level-spec =
+    tie.close
+    (tie.spec
+    draw-requires
+    number-requires
+    same-length
+    same-length-2
+    same-length-3
+    same-length-4
+    same-length-5
+    same-length-6
+    same-length-7
+    returns)

@@ -1,0 +1,29 @@
+-- Values in lent slots: a caller in another language takes no enum, so a call leaves its values in slots that it is lent.
+--   done o l        == what a slot that held l holds after the outcome o: its values where it is done
+--   stopped o l     == what a slot that held l holds after the outcome o: its values where it is refused
+--   slotted o l     == the outcome o with its values in a slot that held l, after the other tables
+--   slottedTwice o s k == the outcome o with its values in two slots: when done in the one that held s, refused in the one
+--                      that held k
+--   carded o        == the outcome o of reading or writing a deck, as one with one table and no work tables
+use mathlib.Core.Bool.{cond}
+use mathlib.Core.List.{List, [], _∷_, _++_}
+use Prim.Native.Nat.{ℕ}
+use lib.Dec.{eqb}
+use Rattle.paper.specs.Refusal.{Outcome}
+use Rattle.deck.specs.Outcome as cards
+use Rattle.drawing.specs.Answer.{left}
+
+unfoldable pub done : Outcome → List ℕ → List ℕ
+done o l = cond (eqb (o .number) 0) (o .values) l
+
+unfoldable pub stopped : Outcome → List ℕ → List ℕ
+stopped o l = cond (eqb (o .number) 0) l (o .values)
+
+unfoldable pub slotted : Outcome → List ℕ → Outcome
+slotted o l = left (o .number) [] (o .tables ++ done o l ∷ []) (o .work)
+
+unfoldable pub slottedTwice : Outcome → List ℕ → List ℕ → Outcome
+slottedTwice o s k = left (o .number) [] (o .tables ++ done o s ∷ stopped o k ∷ []) (o .work)
+
+unfoldable pub carded : cards.Outcome → Outcome
+carded o = left (o .number) (o .values) (o .table ∷ []) []

@@ -1,0 +1,260 @@
+// What is asked of a drawing: whether it is one, to join two of its regions, the depth and the holes of its regions.
+use counts::count::Count;
+ghost use mathlib.Core.Path.{_≡_};
+ghost use mathlib.Core.List.{[], _∷_, _++_};
+ghost use Rattle.paper.specs.Refusal.{five, merged, deepened, holed};
+ghost use Rattle.drawing.specs.Given.{tables, works};
+ghost use Rattle.verdict.specs.Check.{checked};
+ghost use Rattle.counts.specs.Tally.{tallied};
+ghost use Rattle.drawing.specs.Answer.{left};
+ghost use Rattle.join.specs.Faithful.{Faithful};
+ghost use Rattle.raimenolta.specs.Slot.{slotted};
+
+// Checks whether the five tables are the drawing of some sheet of this size. Refusals 1, 4 and 5.
+#[no_mangle]
+pub extern "C" fn raimenolta_check(
+    width: u16,
+    height: u16,
+    next1: &[u16],
+    side1: &[u16],
+    next3: &[u16],
+    other3: &[u16],
+    parent: &[u16],
+    work_a: &mut [u16],
+    work_b: &mut [u16],
+    work_c: &mut [u16],
+    work_d: &mut [u16],
+) -> u16
+    ensures { λ r. ⌜
+        left r []
+        (five
+        (tables (now (next1 .entry)) (now (side1 .entry)) (now (next3 .entry)) (now (other3 .entry)) (now (parent .entry))))
+        (works (now («work_a» .exit)) (now («work_b» .exit)) (now («work_c» .exit)) (now («work_d» .exit))) ≡
+        checked width height
+        (tables (now (next1 .entry)) (now (side1 .entry)) (now (next3 .entry)) (now (other3 .entry)) (now (parent .entry)))
+        (works (now («work_a» .entry)) (now («work_b» .entry)) (now («work_c» .entry)) (now («work_d» .entry)))
+        ⌝ }
+{
+    let verdict = verdict::judge::check(
+        width,
+        height,
+        next1,
+        side1,
+        next3,
+        other3,
+        parent,
+        work_a,
+        work_b,
+        work_c,
+        work_d,
+    );
+    verdict.number()
+}
+
+// Joins the regions a and b of a drawing, in its five tables, which come to equal the drawing afresh. Refusals 1, 4, 5, 6,
+// 7, 8 and 9.
+#[no_mangle]
+pub extern "C" fn raimenolta_join(
+    width: u16,
+    height: u16,
+    next1: &mut [u16],
+    side1: &mut [u16],
+    next3: &mut [u16],
+    other3: &mut [u16],
+    parent: &mut [u16],
+    a: u16,
+    b: u16,
+    work_a: &mut [u16],
+    work_b: &mut [u16],
+    work_c: &mut [u16],
+    work_d: &mut [u16],
+) -> u16
+    ensures { λ r. ⌜
+        (left r []
+        (five
+        (tables (now (next1 .exit)) (now (side1 .exit)) (now (next3 .exit)) (now (other3 .exit)) (now (parent .exit))))
+        (works (now («work_a» .exit)) (now («work_b» .exit)) (now («work_c» .exit)) (now («work_d» .exit))) ≡
+        merged width height
+        (tables (now (next1 .entry)) (now (side1 .entry)) (now (next3 .entry)) (now (other3 .entry)) (now (parent .entry)))
+        a
+        b
+        (works (now («work_a» .entry)) (now («work_b» .entry)) (now («work_c» .entry)) (now («work_d» .entry)))) ×
+        (r ≡ 0 →
+        Faithful width height
+        (tables (now (next1 .entry)) (now (side1 .entry)) (now (next3 .entry)) (now (other3 .entry)) (now (parent .entry)))
+        (tables (now (next1 .exit)) (now (side1 .exit)) (now (next3 .exit)) (now (other3 .exit)) (now (parent .exit)))
+        a
+        b)
+        ⌝ }
+{
+    let joined = join::regions::join(
+        width,
+        height,
+        next1,
+        side1,
+        next3,
+        other3,
+        parent,
+        a,
+        b,
+        work_a,
+        work_b,
+        work_c,
+        work_d,
+    );
+    joined.number()
+}
+
+// Puts the depth of a region, or of the outside for the name 0, into a lent slot. Refusals 1, 4, 5 and 8, which leave the
+// slot as it was.
+#[no_mangle]
+pub extern "C" fn raimenolta_depth(
+    width: u16,
+    height: u16,
+    next1: &[u16],
+    side1: &[u16],
+    next3: &[u16],
+    other3: &[u16],
+    parent: &[u16],
+    name: u16,
+    depth: &mut u16,
+    work_a: &mut [u16],
+    work_b: &mut [u16],
+    work_c: &mut [u16],
+    work_d: &mut [u16],
+) -> u16
+    ensures { λ r. ⌜
+        left r []
+        (five
+        (tables (now (next1 .entry)) (now (side1 .entry)) (now (next3 .entry)) (now (other3 .entry)) (now (parent .entry))) ++
+        (now (depth .exit) ∷ []) ∷ [])
+        (works (now («work_a» .exit)) (now («work_b» .exit)) (now («work_c» .exit)) (now («work_d» .exit))) ≡
+        slotted
+        (deepened width height
+        (tables (now (next1 .entry)) (now (side1 .entry)) (now (next3 .entry)) (now (other3 .entry)) (now (parent .entry)))
+        name
+        (works (now («work_a» .entry)) (now («work_b» .entry)) (now («work_c» .entry)) (now («work_d» .entry))))
+        (now (depth .entry) ∷ [])
+        ⌝ }
+{
+    let answer = counts::count::depth(
+        width,
+        height,
+        next1,
+        side1,
+        next3,
+        other3,
+        parent,
+        name,
+        work_a,
+        work_b,
+        work_c,
+        work_d,
+    );
+    let Count::Is(value) = answer else {
+        return answer.number();
+    };
+    *depth = value;
+    0
+}
+
+// Puts the hole count of a region, or of the outside for the name 0, into a lent slot. Refusals 1, 4, 5 and 8, which leave
+// the slot as it was.
+#[no_mangle]
+pub extern "C" fn raimenolta_holes(
+    width: u16,
+    height: u16,
+    next1: &[u16],
+    side1: &[u16],
+    next3: &[u16],
+    other3: &[u16],
+    parent: &[u16],
+    name: u16,
+    holes: &mut u16,
+    work_a: &mut [u16],
+    work_b: &mut [u16],
+    work_c: &mut [u16],
+    work_d: &mut [u16],
+) -> u16
+    ensures { λ r. ⌜
+        left r []
+        (five
+        (tables (now (next1 .entry)) (now (side1 .entry)) (now (next3 .entry)) (now (other3 .entry)) (now (parent .entry))) ++
+        (now (holes .exit) ∷ []) ∷ [])
+        (works (now («work_a» .exit)) (now («work_b» .exit)) (now («work_c» .exit)) (now («work_d» .exit))) ≡
+        slotted
+        (holed width height
+        (tables (now (next1 .entry)) (now (side1 .entry)) (now (next3 .entry)) (now (other3 .entry)) (now (parent .entry)))
+        name
+        (works (now («work_a» .entry)) (now («work_b» .entry)) (now («work_c» .entry)) (now («work_d» .entry))))
+        (now (holes .entry) ∷ [])
+        ⌝ }
+{
+    let count = counts::count::holes(
+        width,
+        height,
+        next1,
+        side1,
+        next3,
+        other3,
+        parent,
+        name,
+        work_a,
+        work_b,
+        work_c,
+        work_d,
+    );
+    let Count::Is(value) = count else {
+        return count.number();
+    };
+    *holes = value;
+    0
+}
+
+// Depth and hole count of every name at once, the mark for a name that is not in use. Refusals 1, 4 and 5.
+#[no_mangle]
+pub extern "C" fn raimenolta_counts(
+    width: u16,
+    height: u16,
+    next1: &[u16],
+    side1: &[u16],
+    next3: &[u16],
+    other3: &[u16],
+    parent: &[u16],
+    depths: &mut [u16],
+    holes: &mut [u16],
+    work_a: &mut [u16],
+    work_b: &mut [u16],
+    work_c: &mut [u16],
+    work_d: &mut [u16],
+) -> u16
+    ensures { λ r. ⌜
+        left r []
+        (five
+        (tables (now (next1 .entry)) (now (side1 .entry)) (now (next3 .entry)) (now (other3 .entry)) (now (parent .entry))) ++
+        now (depths .exit) ∷ now (holes .exit) ∷ [])
+        (works (now («work_a» .exit)) (now («work_b» .exit)) (now («work_c» .exit)) (now («work_d» .exit))) ≡
+        tallied width height
+        (tables (now (next1 .entry)) (now (side1 .entry)) (now (next3 .entry)) (now (other3 .entry)) (now (parent .entry)))
+        (now (depths .entry))
+        (now (holes .entry))
+        (works (now («work_a» .entry)) (now («work_b» .entry)) (now («work_c» .entry)) (now («work_d» .entry)))
+        ⌝ }
+{
+    let answer = counts::count::counts(
+        width,
+        height,
+        next1,
+        side1,
+        next3,
+        other3,
+        parent,
+        depths,
+        holes,
+        work_a,
+        work_b,
+        work_c,
+        work_d,
+    );
+    answer.number()
+}

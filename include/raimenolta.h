@@ -1,0 +1,217 @@
+/*
+ * Raimenolta: the combinatorial map of a sheet of labelled cells.
+ *
+ * A sheet has width W and height H, each 1 to 72, and W*H labels row by row. A region is a largest set of equally
+ * labelled cells joined through sides; its name is 1 plus the index of its first cell in row order. The outside has the
+ * name 0.
+ *
+ * A dart is a unit line leaving a point: its number is 4 * point + direction. The point (x, y) is y * (W + 1) + x, y
+ * growing downward, and the directions are 0 east, 1 south, 2 west, 3 north. A dart's side is the region on its right.
+ * A table by dart has 4 * (W + 1) * (H + 1) slots. A slot without a dart, and the parent of the outside or of a name not
+ * in use, hold RAIMENOLTA_NONE.
+ *
+ * A drawing is five tables: next1 and side1 (level 1), next3 and other3 (level 3), by dart, and parent, by name.
+ *
+ * Every function
+ * - answers a number: 0 for done, else that of the first refusal that applies, in the order of its comment;
+ * - leaves all that it would write when done as it was where it refuses;
+ * - is lent each table as a pointer and a length in entries, each single number as a pointer. No pointer is null; what
+ *   is written overlaps nothing else that is lent to the same call;
+ * - keeps nothing and allocates nothing: the caller owns every table.
+ *
+ * The four work tables have RAIMENOLTA_SLOTS entries each, whatever they hold. Refusals 1 to 4 leave them as they were;
+ * every other outcome leaves them all 0.
+ *
+ * Refusals
+ *    1  W or H not 1 to 72
+ *    2  level above 3
+ *    3  sheet length not W*H
+ *    4  the length of a lent table, work table or written deck is not the stated one
+ *    5  the five tables are the drawing of no sheet of this size
+ *    6  a joined name is 0
+ *    7  the two names are equal
+ *    8  no region has that name
+ *    9  the two share no line
+ *   20  a card begun is not 80 bytes and a line feed
+ *   21  columns 1 to 72 of the header not as laid out, or its W or H not 1 to 72
+ *   22  columns 73 to 80 wrong
+ *   23  a cell not 33 to 126
+ *   24  a non-blank after column W, to 72
+ *   25  input ends before a card starts, or bytes follow the last card
+ *   26  the cell table is not of length RAIMENOLTA_CELLS
+ *   27  a label to be written is not 33 to 126
+ */
+#ifndef RAIMENOLTA_H
+#define RAIMENOLTA_H
+
+#include <stddef.h>
+#include <stdint.h>
+
+/* No dart, point or name. */
+#define RAIMENOLTA_NONE 65535
+
+/* The length of a table by dart. */
+#define RAIMENOLTA_SLOTS(width, height) (4 * ((size_t)(width) + 1) * ((size_t)(height) + 1))
+
+/* The length of a table by name. */
+#define RAIMENOLTA_NAMES(width, height) ((size_t)(width) * (size_t)(height) + 1)
+
+/* The length of a sheet's deck. */
+#define RAIMENOLTA_DECK(height) (81 * ((size_t)(height) + 1))
+
+/* The length of the table that a deck is read into. */
+#define RAIMENOLTA_CELLS 5184
+
+#ifdef __cplusplus
+extern "C" {
+#endif
+
+/*
+ * Draws a level, 0 to 3, of a sheet: reads sheet (W*H), writes next, other and side (RAIMENOLTA_SLOTS each).
+ * Refusals 1, 2, 3, 4.
+ */
+uint16_t raimenolta_level(
+    uint16_t width, uint16_t height, uint16_t level,
+    const uint16_t *sheet, size_t sheet_length,
+    uint16_t *next, size_t next_length,
+    uint16_t *other, size_t other_length,
+    uint16_t *side, size_t side_length,
+    uint16_t *work_a, size_t work_a_length,
+    uint16_t *work_b, size_t work_b_length,
+    uint16_t *work_c, size_t work_c_length,
+    uint16_t *work_d, size_t work_d_length);
+
+/*
+ * Draws a sheet: reads sheet (W*H), writes the five tables (RAIMENOLTA_SLOTS each, parent RAIMENOLTA_NAMES).
+ * Refusals 1, 3, 4.
+ */
+uint16_t raimenolta_draw(
+    uint16_t width, uint16_t height,
+    const uint16_t *sheet, size_t sheet_length,
+    uint16_t *next1, size_t next1_length,
+    uint16_t *side1, size_t side1_length,
+    uint16_t *next3, size_t next3_length,
+    uint16_t *other3, size_t other3_length,
+    uint16_t *parent, size_t parent_length,
+    uint16_t *work_a, size_t work_a_length,
+    uint16_t *work_b, size_t work_b_length,
+    uint16_t *work_c, size_t work_c_length,
+    uint16_t *work_d, size_t work_d_length);
+
+/*
+ * Checks whether the five tables are the drawing of some sheet of this size: reads them (RAIMENOLTA_SLOTS each, parent
+ * RAIMENOLTA_NAMES). Refusals 1, 4, 5; 0 says that they are.
+ */
+uint16_t raimenolta_check(
+    uint16_t width, uint16_t height,
+    const uint16_t *next1, size_t next1_length,
+    const uint16_t *side1, size_t side1_length,
+    const uint16_t *next3, size_t next3_length,
+    const uint16_t *other3, size_t other3_length,
+    const uint16_t *parent, size_t parent_length,
+    uint16_t *work_a, size_t work_a_length,
+    uint16_t *work_b, size_t work_b_length,
+    uint16_t *work_c, size_t work_c_length,
+    uint16_t *work_d, size_t work_d_length);
+
+/*
+ * Joins the regions named a and b in a drawing: reads and writes the five tables (RAIMENOLTA_SLOTS each, parent
+ * RAIMENOLTA_NAMES). The joined region has the smaller name. Refusals 1, 4, 5, 6, 7, 8, 9.
+ */
+uint16_t raimenolta_join(
+    uint16_t width, uint16_t height,
+    uint16_t *next1, size_t next1_length,
+    uint16_t *side1, size_t side1_length,
+    uint16_t *next3, size_t next3_length,
+    uint16_t *other3, size_t other3_length,
+    uint16_t *parent, size_t parent_length,
+    uint16_t a, uint16_t b,
+    uint16_t *work_a, size_t work_a_length,
+    uint16_t *work_b, size_t work_b_length,
+    uint16_t *work_c, size_t work_c_length,
+    uint16_t *work_d, size_t work_d_length);
+
+/*
+ * The depth of a region, or of the outside for the name 0: reads the five tables (RAIMENOLTA_SLOTS each, parent
+ * RAIMENOLTA_NAMES), writes the one number at depth. Refusals 1, 4, 5, 8.
+ */
+uint16_t raimenolta_depth(
+    uint16_t width, uint16_t height,
+    const uint16_t *next1, size_t next1_length,
+    const uint16_t *side1, size_t side1_length,
+    const uint16_t *next3, size_t next3_length,
+    const uint16_t *other3, size_t other3_length,
+    const uint16_t *parent, size_t parent_length,
+    uint16_t name, uint16_t *depth,
+    uint16_t *work_a, size_t work_a_length,
+    uint16_t *work_b, size_t work_b_length,
+    uint16_t *work_c, size_t work_c_length,
+    uint16_t *work_d, size_t work_d_length);
+
+/*
+ * The number of regions whose parent is this region, or the outside for the name 0: reads the five tables
+ * (RAIMENOLTA_SLOTS each, parent RAIMENOLTA_NAMES), writes the one number at holes. Refusals 1, 4, 5, 8.
+ */
+uint16_t raimenolta_holes(
+    uint16_t width, uint16_t height,
+    const uint16_t *next1, size_t next1_length,
+    const uint16_t *side1, size_t side1_length,
+    const uint16_t *next3, size_t next3_length,
+    const uint16_t *other3, size_t other3_length,
+    const uint16_t *parent, size_t parent_length,
+    uint16_t name, uint16_t *holes,
+    uint16_t *work_a, size_t work_a_length,
+    uint16_t *work_b, size_t work_b_length,
+    uint16_t *work_c, size_t work_c_length,
+    uint16_t *work_d, size_t work_d_length);
+
+/*
+ * Depth and hole count of every name at once: reads the five tables (RAIMENOLTA_SLOTS each, parent RAIMENOLTA_NAMES),
+ * writes depths and holes (RAIMENOLTA_NAMES each), by name, RAIMENOLTA_NONE for a name not in use. Refusals 1, 4, 5.
+ */
+uint16_t raimenolta_counts(
+    uint16_t width, uint16_t height,
+    const uint16_t *next1, size_t next1_length,
+    const uint16_t *side1, size_t side1_length,
+    const uint16_t *next3, size_t next3_length,
+    const uint16_t *other3, size_t other3_length,
+    const uint16_t *parent, size_t parent_length,
+    uint16_t *depths, size_t depths_length,
+    uint16_t *holes, size_t holes_length,
+    uint16_t *work_a, size_t work_a_length,
+    uint16_t *work_b, size_t work_b_length,
+    uint16_t *work_c, size_t work_c_length,
+    uint16_t *work_d, size_t work_d_length);
+
+/*
+ * Reads a land deck: reads deck (of any length), writes cells (RAIMENOLTA_CELLS), the labels in row order and 0 after
+ * them, and the two numbers W and H at size. Refusals 26, then card by card 25, 20, 22, then 21 for the header or 23
+ * and 24 from the left for a row, and last 25 for bytes after the last card. A refusal writes the one number at card:
+ * that of the card, counted from 1, or 0 for 26. When it is done it leaves card as it was.
+ */
+uint16_t raimenolta_read(
+    const uint8_t *deck, size_t deck_length,
+    uint16_t *cells, size_t cells_length,
+    uint16_t size[2], uint16_t *card);
+
+/*
+ * Writes the deck of a sheet: reads sheet (W*H), writes deck (RAIMENOLTA_DECK). Refusals 1, 3, 4, 27.
+ */
+uint16_t raimenolta_write(
+    uint16_t width, uint16_t height,
+    const uint16_t *sheet, size_t sheet_length,
+    uint8_t *deck, size_t deck_length);
+
+/*
+ * Whether the first width bytes of a row's card hold its cells: reads card (of any length). Refusals 1 for a width that
+ * is not 1 to 72, 20 for a card that is not 80 bytes and a line feed.
+ */
+uint16_t raimenolta_part_refusal(
+    uint16_t width,
+    const uint8_t *card, size_t card_length);
+
+#ifdef __cplusplus
+}
+#endif
+
+#endif
