@@ -1,0 +1,20 @@
+/* The same jobs as the library's, in plain C: what the library's speed is measured against. */
+#ifndef PLAIN_H
+#define PLAIN_H
+#include <stdint.h>
+
+/* The five tables of a drawing. */
+struct five {
+    uint16_t *next1, *side1, *next3, *other3, *parent;
+};
+
+/* Draws a sheet. */
+void plain_draw(int width, int height, const uint16_t *sheet, struct five five);
+
+/* Whether five tables are the drawing of a sheet. */
+int plain_check(int width, int height, struct five five);
+
+/* Judges the tables and the names, and joins; the paper's refusal number, 0 for done. */
+int plain_join(int width, int height, struct five five, int a, int b);
+
+#endif

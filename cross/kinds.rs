@@ -1,0 +1,635 @@
+//! The kinds of cases. A kind makes a sheet from a seed, and then calls from the sheet and the seed; every call is
+//! answered by the naive implementation and by the library, and every number and table is compared.
+//!
+//! A kind depends on nothing but the sheet and the seed, so a case that differs can be made smaller.
+
+use crate::naive::{self, Five, Size, CARD, CELLS, MARK};
+use crate::request::{difference, list, Answer, Call, Request, Server};
+use crate::sheets::{self, Random, Sheet};
+use std::sync::OnceLock;
+
+/// A call on which the two sides differ, and how.
+pub struct Difference {
+    pub request: Request,
+    pub what: String,
+}
+
+/// Both sides.
+pub struct Both {
+    server: Server,
+    pub calls: u64,
+}
+
+type Same = Result<(), Difference>;
+
+impl Both {
+    pub fn new(server: Server) -> Both {
+        Both { server, calls: 0 }
+    }
+
+    /// The answer, where both sides give the same.
+    fn same(&mut self, request: Request) -> Result<Answer, Difference> {
+        self.calls += 1;
+        let naive = request.by_naive();
+        let what = match self.server.answer(&request) {
+            Ok(library) => difference(request.call, &naive, &library),
+            Err(what) => Some(what),
+        };
+        match what {
+            None => Ok(naive),
+            Some(what) => Err(Difference { request, what }),
+        }
+    }
+}
+
+pub struct Kind {
+    pub name: &'static str,
+    /// The number of cases in the default run.
+    pub cases: usize,
+    pub sheet: fn(usize, &mut Random) -> Sheet,
+    pub compare: fn(&mut Both, &Sheet, &mut Random) -> Same,
+}
+
+pub fn kinds() -> Vec<Kind> {
+    let any = |_: usize, random: &mut Random| sized(random, 72);
+    let middling = |_: usize, random: &mut Random| sized(random, 20);
+    let little = |_: usize, random: &mut Random| sized(random, 9);
+    vec![
+        Kind { name: "small", cases: sheets::all_small().len(), sheet: small, compare: everything },
+        Kind { name: "levels", cases: 4000, sheet: any, compare: levels },
+        Kind { name: "drawings", cases: 4000, sheet: any, compare: drawings },
+        Kind { name: "joins", cases: 2400, sheet: middling, compare: joins },
+        Kind { name: "large joins", cases: 9, sheet: large, compare: joins },
+        Kind { name: "long joins", cases: 2, sheet: crowded, compare: joins },
+        Kind { name: "names", cases: 4000, sheet: middling, compare: names },
+        Kind { name: "damage", cases: 16000, sheet: middling, compare: damage },
+        Kind { name: "large damage", cases: 3000, sheet: any, compare: damage },
+        Kind { name: "lengths", cases: 900, sheet: little, compare: lengths },
+        Kind { name: "large lengths", cases: 15, sheet: any, compare: lengths },
+        Kind { name: "decks", cases: 6000, sheet: any, compare: decks },
+        Kind { name: "deck bytes", cases: 24, sheet: little, compare: deck_bytes },
+    ]
+}
+
+fn sized(random: &mut Random, limit: usize) -> Sheet {
+    let size = sheets::size(random, limit);
+    sheets::sheet(random, size)
+}
+
+fn small(index: usize, _: &mut Random) -> Sheet {
+    static ALL: OnceLock<Vec<Sheet>> = OnceLock::new();
+    let all = ALL.get_or_init(sheets::all_small);
+    all[index % all.len()].clone()
+}
+
+/// A sheet of many regions.
+fn crowded(_: usize, random: &mut Random) -> Sheet {
+    let size = Size { width: 30 + random.below(43), height: 30 };
+    sheets::speckled(random, size, 4)
+}
+
+fn large(_: usize, random: &mut Random) -> Sheet {
+    sheets::painted_over(random, Size { width: 72, height: 72 })
+}
+
+// ---------------------------------------------------------------------------------------------------------------------
+// Calls with tables of the stated lengths
+
+/// What a lent table holds before the call: anything.
+fn junk(random: &mut Random, length: usize) -> Vec<u16> {
+    match random.below(8) {
+        0 => vec![0; length],
+        1 => vec![MARK; length],
+        _ => (0..length).map(|_| random.word()).collect(),
+    }
+}
+
+fn with_works(random: &mut Random, size: Size, mut tables: Vec<Vec<u16>>) -> Vec<Vec<u16>> {
+    for _ in 0..4 {
+        tables.push(junk(random, size.slots()));
+    }
+    tables
+}
+
+fn sized_numbers(size: Size, more: &[u16]) -> Vec<u16> {
+    [&[size.width as u16, size.height as u16], more].concat()
+}
+
+fn words(call: Call, numbers: Vec<u16>, tables: Vec<Vec<u16>>) -> Request {
+    Request { call, numbers, tables, bytes: vec![] }
+}
+
+fn level(random: &mut Random, sheet: &Sheet, number: u16) -> Request {
+    let mut tables = vec![sheet.labels.clone()];
+    for _ in 0..3 {
+        tables.push(junk(random, sheet.size.slots()));
+    }
+    words(Call::Level, sized_numbers(sheet.size, &[number]), with_works(random, sheet.size, tables))
+}
+
+fn draw(random: &mut Random, sheet: &Sheet) -> Request {
+    let mut tables = vec![sheet.labels.clone()];
+    for _ in 0..4 {
+        tables.push(junk(random, sheet.size.slots()));
+    }
+    tables.push(junk(random, sheet.size.names()));
+    words(Call::Draw, sized_numbers(sheet.size, &[]), with_works(random, sheet.size, tables))
+}
+
+fn check(random: &mut Random, size: Size, five: &Five) -> Request {
+    words(Call::Check, sized_numbers(size, &[]), with_works(random, size, list(five.clone())))
+}
+
+fn join(random: &mut Random, size: Size, five: &Five, a: u16, b: u16) -> Request {
+    words(Call::Join, sized_numbers(size, &[a, b]), with_works(random, size, list(five.clone())))
+}
+
+/// A call for the depth or the holes of one name.
+fn count(random: &mut Random, call: Call, size: Size, five: &Five, name: u16) -> Request {
+    let tables = [list(five.clone()), vec![vec![random.word()]]].concat();
+    words(call, sized_numbers(size, &[name]), with_works(random, size, tables))
+}
+
+fn counts(random: &mut Random, size: Size, five: &Five) -> Request {
+    let tables = [list(five.clone()), vec![junk(random, size.names()), junk(random, size.names())]].concat();
+    words(Call::Counts, sized_numbers(size, &[]), with_works(random, size, tables))
+}
+
+fn read(random: &mut Random, deck: Vec<u8>) -> Request {
+    let tables = vec![junk(random, CELLS), junk(random, 2), junk(random, 1)];
+    Request { call: Call::Read, numbers: vec![], tables, bytes: deck }
+}
+
+fn write(random: &mut Random, sheet: &Sheet) -> Request {
+    let bytes = (0..CARD * (sheet.size.height + 1)).map(|_| random.word() as u8).collect();
+    let numbers = sized_numbers(sheet.size, &[]);
+    Request { call: Call::Write, numbers, tables: vec![sheet.labels.clone()], bytes }
+}
+
+fn part_refusal(width: u16, card: Vec<u8>) -> Request {
+    Request { call: Call::PartRefusal, numbers: vec![width], tables: vec![], bytes: card }
+}
+
+// ---------------------------------------------------------------------------------------------------------------------
+// Sheets, drawings and joins
+
+fn levels(both: &mut Both, sheet: &Sheet, random: &mut Random) -> Same {
+    for number in 0..4 {
+        both.same(level(random, sheet, number))?;
+    }
+    let above = random.one_of(&[4, 5, 255, 256, 257, 259, 32768, 65535]);
+    both.same(level(random, sheet, above))?;
+    Ok(())
+}
+
+fn drawings(both: &mut Both, sheet: &Sheet, random: &mut Random) -> Same {
+    let five = drawn(&both.same(draw(random, sheet))?.tables[1..]);
+    both.same(check(random, sheet.size, &five))?;
+    both.same(counts(random, sheet.size, &five))?;
+    let name = random.one_of(&used(&five));
+    both.same(count(random, Call::Depth, sheet.size, &five, name))?;
+    both.same(count(random, Call::Holes, sheet.size, &five, name))?;
+    Ok(())
+}
+
+/// The first five of some tables.
+fn drawn(tables: &[Vec<u16>]) -> Five {
+    let table = |k: usize| tables[k].clone();
+    Five { next1: table(0), side1: table(1), next3: table(2), other3: table(3), parent: table(4) }
+}
+
+/// The names in use in a drawing, the outside too.
+fn used(five: &Five) -> Vec<u16> {
+    (0..five.parent.len()).filter(|&name| name == 0 || five.parent[name] != MARK).map(|name| name as u16).collect()
+}
+
+/// The pairs of regions that share a line, without the outside.
+fn neighbours(size: Size, five: &Five) -> Vec<(u16, u16)> {
+    let lines = (0..size.slots()).filter(|&dart| five.side1[dart] != MARK);
+    let sides = lines.map(|dart| (five.side1[dart], five.side1[size.reversal(dart)]));
+    let mut pairs: Vec<(u16, u16)> = sides.filter(|&(a, b)| a != 0 && b != 0).collect();
+    pairs.sort_unstable();
+    pairs.dedup();
+    pairs
+}
+
+/// One join that is to be done, with the naive removal rule compared as well.
+fn one_join(
+    both: &mut Both,
+    size: Size,
+    five: &Five,
+    (a, b): (u16, u16),
+    random: &mut Random,
+) -> Result<Five, Difference> {
+    let request = join(random, size, five, a, b);
+    let answer = both.same(request.clone())?;
+    let joined = drawn(&answer.tables);
+    if answer.number != 0 || joined != naive::joined_by_removal(size, five, a, b) {
+        let what = "the naive removal rule and the naive fresh drawing differ".into();
+        return Err(Difference { request, what });
+    }
+    Ok(joined)
+}
+
+/// Joins until no two regions share a line, with a refused join now and then.
+fn joins(both: &mut Both, sheet: &Sheet, random: &mut Random) -> Same {
+    let size = sheet.size;
+    let mut five = naive::draw(size, &sheet.labels);
+    loop {
+        let pairs = neighbours(size, &five);
+        if pairs.is_empty() {
+            break;
+        }
+        let (a, b) = random.one_of(&pairs);
+        five = one_join(both, size, &five, (a, b), random)?;
+        if random.once_in(8) {
+            both.same(join(random, size, &five, a, b))?;
+            both.same(counts(random, size, &five))?;
+        }
+    }
+    both.same(check(random, size, &five))?;
+    Ok(())
+}
+
+/// Every call on a small sheet: every level, every count, every join and one chain of joins.
+fn everything(both: &mut Both, sheet: &Sheet, random: &mut Random) -> Same {
+    let size = sheet.size;
+    levels(both, sheet, random)?;
+    drawings(both, sheet, random)?;
+    let five = naive::draw(size, &sheet.labels);
+    for name in 0..=size.names() as u16 {
+        both.same(count(random, Call::Depth, size, &five, name))?;
+        both.same(count(random, Call::Holes, size, &five, name))?;
+    }
+    for (a, b) in neighbours(size, &five) {
+        one_join(both, size, &five, (a, b), random)?;
+    }
+    let used = used(&five);
+    for a in &used {
+        let b = random.one_of(&used);
+        both.same(join(random, size, &five, *a, b))?;
+    }
+    joins(both, sheet, random)
+}
+
+/// A name, often none of a region.
+fn some_name(random: &mut Random, five: &Five) -> u16 {
+    let above = five.parent.len() as u16;
+    match random.below(8) {
+        0 => 0,
+        1 => above + random.below(3) as u16,
+        2 => random.one_of(&[MARK, MARK - 1, 32768, 256, 5184, 5185]),
+        3 | 4 => random.below(five.parent.len()) as u16,
+        _ => random.one_of(&used(five)),
+    }
+}
+
+/// Joins and counts of names that are 0, equal, unused, too large or far apart.
+fn names(both: &mut Both, sheet: &Sheet, random: &mut Random) -> Same {
+    let size = sheet.size;
+    let five = naive::draw(size, &sheet.labels);
+    for _ in 0..8 {
+        let a = some_name(random, &five);
+        let b = if random.once_in(4) { a } else { some_name(random, &five) };
+        both.same(join(random, size, &five, a, b))?;
+        both.same(count(random, Call::Depth, size, &five, a))?;
+        both.same(count(random, Call::Holes, size, &five, b))?;
+    }
+    Ok(())
+}
+
+// ---------------------------------------------------------------------------------------------------------------------
+// Tables that are no drawing
+
+/// A value to put in a table: near the old one, one of the same table, or anything.
+fn other_value(random: &mut Random, table: &[u16], old: u16) -> u16 {
+    match random.below(6) {
+        0 => old.wrapping_add(1),
+        1 => old.wrapping_sub(1),
+        2 => MARK,
+        3 => random.one_of(&[0, 1, old ^ 2, 65534]),
+        4 => random.one_of(table),
+        _ => random.word(),
+    }
+}
+
+/// Moves the anchor of a closed curve one point on, if there is a closed curve.
+fn move_an_anchor(random: &mut Random, size: Size, five: &mut Five) {
+    let alone: Vec<usize> = (0..size.slots()).filter(|&dart| five.next3[dart] as usize == dart).collect();
+    if alone.is_empty() {
+        return;
+    }
+    let old = random.one_of(&alone);
+    let new = five.next1[old] as usize;
+    let back = size.reversal(old);
+    for gone in [old, five.other3[old] as usize] {
+        five.next3[gone] = MARK;
+        five.other3[gone] = MARK;
+    }
+    for (dart, other) in [(new, back), (back, new)] {
+        five.next3[dart] = dart as u16;
+        five.other3[dart] = other as u16;
+    }
+}
+
+/// Exchanges two names wherever they stand.
+fn exchange_names(random: &mut Random, five: &mut Five) {
+    let names = used(five);
+    let (a, b) = (random.one_of(&names), random.one_of(&names));
+    five.parent.swap(a as usize, b as usize);
+    for entry in five.side1.iter_mut().chain(&mut five.parent) {
+        *entry = if *entry == a {
+            b
+        } else if *entry == b {
+            a
+        } else {
+            *entry
+        };
+    }
+}
+
+/// Five tables of the sheet's size that are most often no drawing.
+fn damaged(random: &mut Random, sheet: &Sheet) -> Five {
+    let size = sheet.size;
+    let mut five = naive::draw(size, &sheet.labels);
+    let mut tables = list(five.clone());
+    match random.below(14) {
+        0..=4 => {
+            let table = &mut tables[random.below(5)];
+            let k = random.below(table.len());
+            table[k] = other_value(random, table, table[k]);
+        }
+        5 => {
+            let table = &mut tables[random.below(5)];
+            let (j, k) = (random.below(table.len()), random.below(table.len()));
+            table.swap(j, k);
+        }
+        6 => tables.swap(random.below(4), random.below(4)),
+        7 => {
+            let k = random.below(5);
+            tables[k] = list(naive::draw(size, &sheets::sheet(random, size).labels)).swap_remove(k);
+        }
+        8 => {
+            let level_2 = naive::level(size, &sheet.labels, 2);
+            (tables[2], tables[3]) = (level_2.next, level_2.other);
+        }
+        9 => {
+            let fill = random.one_of(&[0, MARK]);
+            match random.below(2) {
+                0 => tables.iter_mut().for_each(|table| table.fill(fill)),
+                _ => tables[random.below(5)].fill(fill),
+            }
+        }
+        10 => {
+            for k in 0..tables.len() {
+                tables[k] = junk(random, tables[k].len());
+            }
+        }
+        11 => {
+            move_an_anchor(random, size, &mut five);
+            return five;
+        }
+        12 => {
+            exchange_names(random, &mut five);
+            return five;
+        }
+        _ => tables = list(naive::draw(size, &sheets::sheet(random, size).labels)),
+    }
+    drawn(&tables)
+}
+
+/// Every call that is given a drawing, on tables that are most often none.
+fn damage(both: &mut Both, sheet: &Sheet, random: &mut Random) -> Same {
+    let size = sheet.size;
+    let five = damaged(random, sheet);
+    both.same(check(random, size, &five))?;
+    let pairs = neighbours(size, &naive::draw(size, &sheet.labels));
+    let (a, b) = if pairs.is_empty() || random.once_in(3) { (random.word(), 0) } else { random.one_of(&pairs) };
+    both.same(join(random, size, &five, a, b))?;
+    both.same(count(random, Call::Depth, size, &five, a))?;
+    both.same(count(random, Call::Holes, size, &five, b))?;
+    both.same(counts(random, size, &five))?;
+    Ok(())
+}
+
+// ---------------------------------------------------------------------------------------------------------------------
+// Wrong lengths and sizes
+
+/// A length that is not the stated one.
+fn wrong_length(random: &mut Random, length: usize) -> usize {
+    let lengths = [length - 1, length + 1, 0, length / 2, length + 4, 2 * length];
+    loop {
+        let wrong = random.one_of(&lengths);
+        if wrong != length {
+            return wrong;
+        }
+    }
+}
+
+/// Whether a table is a slot of a fixed length, which a caller cannot get wrong.
+fn is_slot(call: Call, name: &str) -> bool {
+    match call {
+        Call::Depth => name == "depth",
+        Call::Holes => name == "holes",
+        Call::Read => name != "cells",
+        _ => false,
+    }
+}
+
+/// The requests of a call with one length wrong, each table and the bytes in turn.
+fn one_length_wrong(random: &mut Random, request: &Request) -> Vec<Request> {
+    let mut wrong = Vec::new();
+    for (k, name) in request.call.tables().iter().enumerate().filter(|(_, name)| !is_slot(request.call, name)) {
+        let length = request.tables[k].len();
+        for new in [length - 1, length + 1, 0, wrong_length(random, length)] {
+            let mut request = request.clone();
+            request.tables[k].resize(new, name.len() as u16);
+            wrong.push(request);
+        }
+    }
+    if !request.bytes.is_empty() {
+        for new in [request.bytes.len() - 1, request.bytes.len() + 1, 0, CARD - 1, CARD, CARD + 1] {
+            let mut request = request.clone();
+            request.bytes.resize(new, 10);
+            wrong.push(request);
+        }
+    }
+    wrong
+}
+
+/// A width or height, most often not 1 to 72.
+fn some_length(random: &mut Random, right: u16) -> u16 {
+    random.one_of(&[0, 73, 65535, 1, 72, 74, 127, 128, 255, 256, right + 1, right - 1, right, right + 256, 32768])
+}
+
+/// The request with a few things wrong at once, to compare the order of refusals.
+fn several_wrong(random: &mut Random, request: &Request) -> Request {
+    let mut wrong = request.clone();
+    for number in wrong.numbers.iter_mut() {
+        if random.once_in(3) {
+            *number = some_length(random, (*number).max(1).min(72));
+        }
+    }
+    if wrong.numbers.len() >= 2 && random.once_in(4) {
+        wrong.numbers.swap(0, 1);
+    }
+    for (k, name) in request.call.tables().iter().enumerate() {
+        if !is_slot(request.call, name) && random.once_in(8) {
+            let length = wrong_length(random, request.tables[k].len().max(1));
+            wrong.tables[k].resize(length, 1);
+        }
+    }
+    if random.once_in(4) {
+        let length = wrong_length(random, wrong.bytes.len().max(1));
+        wrong.bytes.resize(length, 10);
+    }
+    wrong
+}
+
+/// Every call with lengths and sizes that are not the stated ones.
+fn lengths(both: &mut Both, sheet: &Sheet, random: &mut Random) -> Same {
+    let size = sheet.size;
+    let five = if random.once_in(3) { damaged(random, sheet) } else { naive::draw(size, &sheet.labels) };
+    let name = some_name(random, &five);
+    let (a, b) = (some_name(random, &five), some_name(random, &five));
+    let text = as_cells(sheet);
+    let deck = naive::write(size, &text.labels);
+    let number = random.below(5) as u16;
+    let written = if random.once_in(2) { sheet } else { &text };
+    let requests = [
+        level(random, sheet, number),
+        draw(random, sheet),
+        check(random, size, &five),
+        join(random, size, &five, a, b),
+        count(random, Call::Depth, size, &five, name),
+        count(random, Call::Holes, size, &five, name),
+        counts(random, size, &five),
+        read(random, deck.clone()),
+        write(random, written),
+        part_refusal(text.width(), deck[CARD..2 * CARD].to_vec()),
+    ];
+    for request in &requests {
+        for wrong in one_length_wrong(random, request) {
+            both.same(wrong)?;
+        }
+        for _ in 0..6 {
+            let wrong = several_wrong(random, request);
+            both.same(wrong)?;
+        }
+    }
+    Ok(())
+}
+
+// ---------------------------------------------------------------------------------------------------------------------
+// Decks
+
+/// The sheet with its labels brought among the cells of a card.
+fn as_cells(sheet: &Sheet) -> Sheet {
+    sheet.relabelled(|label| 33 + label % 94)
+}
+
+/// A byte that is worth trying in a card.
+fn some_byte(random: &mut Random) -> u8 {
+    match random.below(3) {
+        0 => random.word() as u8,
+        1 => 33 + random.below(94) as u8,
+        _ => random.one_of(&[0, 9, 10, 13, 31, 32, 33, 47, 48, 49, 57, 58, 126, 127, 128, 160, 255]),
+    }
+}
+
+/// A deck changed in one way.
+fn changed(random: &mut Random, deck: &[u8]) -> Vec<u8> {
+    let mut deck = deck.to_vec();
+    if deck.is_empty() {
+        return vec![some_byte(random)];
+    }
+    let cards = deck.len() / CARD;
+    let one = CARD * random.below(cards.max(1));
+    let two = CARD * random.below(cards.max(1));
+    match random.below(14) {
+        0..=2 => {
+            let k = random.below(deck.len());
+            deck[k] = some_byte(random);
+        }
+        3 => {
+            let k = random.below(deck.len().min(12));
+            deck[k] = some_byte(random);
+        }
+        4 => {
+            let number = random.one_of(&[0, 1, 2, 10, 71, 72, 73, 99, cards, cards - cards.min(1), cards + 1]);
+            let at = random.one_of(&[6, 8]);
+            if deck.len() > 10 {
+                deck[at..at + 2].copy_from_slice(format!("{:02}", number % 100).as_bytes());
+            }
+        }
+        5 => deck.truncate(random.below(deck.len())),
+        6 => deck.truncate(one),
+        7 => {
+            let more = 1 + random.below(2 * CARD);
+            deck.extend((0..more).map(|_| some_byte(random)));
+        }
+        8 => deck.push(random.one_of(&[10, 32, 0, 48])),
+        9 => {
+            for k in 0..CARD {
+                if one + k < deck.len() && two + k < deck.len() {
+                    deck.swap(one + k, two + k);
+                }
+            }
+        }
+        10 => {
+            let end = (one + CARD).min(deck.len());
+            deck.drain(one..end);
+        }
+        11 => {
+            let copy = deck[two..(two + CARD).min(deck.len())].to_vec();
+            deck.splice(one..one, copy);
+        }
+        12 => {
+            let k = random.below(deck.len());
+            deck.remove(k);
+        }
+        _ => {
+            let k = random.below(deck.len());
+            deck.insert(k, some_byte(random));
+        }
+    }
+    deck
+}
+
+/// Writing, reading what was written, and reading decks changed in one or two ways.
+fn decks(both: &mut Both, sheet: &Sheet, random: &mut Random) -> Same {
+    both.same(write(random, sheet))?;
+    let mut text = as_cells(sheet);
+    let deck = both.same(write(random, &text))?.bytes;
+    both.same(read(random, deck.clone()))?;
+    let k = random.below(text.labels.len());
+    text.labels[k] = random.one_of(&[0, 10, 32, 33, 126, 127, 255, 256 + 65, 65535, 65535 - 190]);
+    both.same(write(random, &text))?;
+    for _ in 0..12 {
+        let mut damaged = changed(random, &deck);
+        if random.once_in(2) {
+            damaged = changed(random, &damaged);
+        }
+        both.same(read(random, damaged.clone()))?;
+        let width = random.one_of(&[0, 1, 2, 71, 72, 73, 255, 257, 65535, sheet.width()]);
+        let start = CARD * random.below(damaged.len() / CARD + 1);
+        let end = (start + random.one_of(&[CARD, CARD, CARD - 1, CARD + 1])).min(damaged.len());
+        both.same(part_refusal(width, damaged[start..end].to_vec()))?;
+    }
+    both.same(read(random, vec![]))?;
+    Ok(())
+}
+
+/// Every byte of a small deck changed, and the deck cut at every place.
+fn deck_bytes(both: &mut Both, sheet: &Sheet, random: &mut Random) -> Same {
+    let deck = naive::write(sheet.size, &as_cells(sheet).labels);
+    for k in 0..deck.len() {
+        for byte in [some_byte(random), deck[k] ^ 1, b' ', b'\n', b'A'] {
+            let mut changed = deck.clone();
+            changed[k] = byte;
+            both.same(read(random, changed))?;
+        }
+        both.same(read(random, deck[..k].to_vec()))?;
+    }
+    Ok(())
+}

@@ -1,0 +1,769 @@
+//! The paper's rules, done naively: an independent implementation to compare the library with.
+//!
+//! Written from the paper alone, by the most direct reading of each sentence: regions by flood fill, curves by walking
+//! them, pieces by searching them, refusals in the order of the paper's table. Nothing here is meant to be fast, and
+//! nothing is shared with the library.
+//!
+//!   Size      width and height of a sheet, with its points and darts
+//!   Level     the three tables of one level: next, other, side
+//!   Five      the five tables of a drawing
+//!   .._call   what a public call answers, and what it leaves in each lent table
+
+/// "None" in every table of links, sides or parents.
+pub const MARK: u16 = 65535;
+/// The greatest width and the greatest height.
+pub const LIMIT: u16 = 72;
+/// The length of the reader's cell table.
+pub const CELLS: usize = 5184;
+/// The length of a card: 80 columns and a line feed.
+pub const CARD: usize = 81;
+
+const EAST: usize = 0;
+const SOUTH: usize = 1;
+const WEST: usize = 2;
+const NORTH: usize = 3;
+
+/// Four lent work tables.
+pub type Works = [Vec<u16>; 4];
+
+// ---------------------------------------------------------------------------------------------------------------------
+// Sheet, names, points and darts
+
+#[derive(Clone, Copy, PartialEq, Eq, Debug)]
+pub struct Size {
+    pub width: usize,
+    pub height: usize,
+}
+
+impl Size {
+    /// The size, unless the width or the height is not 1 to 72.
+    pub fn new(width: u16, height: u16) -> Option<Size> {
+        let fits = |n: u16| n >= 1 && n <= LIMIT;
+        if fits(width) && fits(height) {
+            Some(Size { width: width as usize, height: height as usize })
+        } else {
+            None
+        }
+    }
+
+    pub fn cells(self) -> usize {
+        self.width * self.height
+    }
+
+    pub fn points(self) -> usize {
+        (self.width + 1) * (self.height + 1)
+    }
+
+    pub fn slots(self) -> usize {
+        4 * self.points()
+    }
+
+    /// The length of the parent table: the outside and a name for each cell.
+    pub fn names(self) -> usize {
+        self.cells() + 1
+    }
+
+    fn point(self, x: usize, y: usize) -> usize {
+        y * (self.width + 1) + x
+    }
+
+    fn place(self, point: usize) -> (usize, usize) {
+        (point % (self.width + 1), point / (self.width + 1))
+    }
+
+    /// The point at the far end of a dart's line, or none where the line leaves the sheet.
+    fn far(self, dart: usize) -> Option<usize> {
+        let (x, y) = self.place(dart / 4);
+        match dart % 4 {
+            EAST if x < self.width => Some(self.point(x + 1, y)),
+            SOUTH if y < self.height => Some(self.point(x, y + 1)),
+            WEST if x > 0 => Some(self.point(x - 1, y)),
+            NORTH if y > 0 => Some(self.point(x, y - 1)),
+            _ => None,
+        }
+    }
+
+    /// The dart of the same line that leaves the far point. Asked only of a line on the sheet.
+    pub fn reversal(self, dart: usize) -> usize {
+        4 * self.far(dart).expect("a line on the sheet") + (dart % 4 + 2) % 4
+    }
+
+    /// The cell whose top left corner lies `right` and `down` of a point, or none outside the sheet.
+    fn cell(self, point: usize, right: isize, down: isize) -> Option<usize> {
+        let (x, y) = self.place(point);
+        let (x, y) = (x as isize + right, y as isize + down);
+        let inside = x >= 0 && y >= 0 && x < self.width as isize && y < self.height as isize;
+        inside.then(|| y as usize * self.width + x as usize)
+    }
+
+    /// The cell on the right hand of a dart as it travels.
+    fn right_hand(self, dart: usize) -> Option<usize> {
+        let point = dart / 4;
+        match dart % 4 {
+            EAST => self.cell(point, 0, 0),
+            SOUTH => self.cell(point, -1, 0),
+            WEST => self.cell(point, -1, -1),
+            _ => self.cell(point, 0, -1),
+        }
+    }
+}
+
+/// Gives every cell the number of its part: cells are joined through the sides that `open` says are open, a part is
+/// numbered 1 plus the index of its first cell.
+fn flood(size: Size, open: impl Fn(usize, usize) -> bool) -> Vec<u16> {
+    let mut name = vec![0; size.cells()];
+    for first in 0..size.cells() {
+        if name[first] != 0 {
+            continue;
+        }
+        name[first] = first as u16 + 1;
+        let mut reached = vec![first];
+        while let Some(cell) = reached.pop() {
+            let (x, y) = (cell % size.width, cell / size.width);
+            let mut beside = Vec::new();
+            if x > 0 {
+                beside.push(cell - 1);
+            }
+            if x + 1 < size.width {
+                beside.push(cell + 1);
+            }
+            if y > 0 {
+                beside.push(cell - size.width);
+            }
+            if y + 1 < size.height {
+                beside.push(cell + size.width);
+            }
+            for other in beside {
+                if name[other] == 0 && open(cell, other) {
+                    name[other] = name[first];
+                    reached.push(other);
+                }
+            }
+        }
+    }
+    name
+}
+
+/// The name of each cell's region.
+pub fn names(size: Size, labels: &[u16]) -> Vec<u16> {
+    flood(size, |cell, other| labels[cell] == labels[other])
+}
+
+/// The region on the right hand of a dart; the outside is 0.
+fn side(size: Size, names: &[u16], dart: usize) -> u16 {
+    size.right_hand(dart).map_or(0, |cell| names[cell])
+}
+
+// ---------------------------------------------------------------------------------------------------------------------
+// The four levels
+
+#[derive(Clone, PartialEq, Eq, Debug)]
+pub struct Level {
+    pub next: Vec<u16>,
+    pub other: Vec<u16>,
+    pub side: Vec<u16>,
+}
+
+impl Level {
+    fn empty(size: Size) -> Level {
+        let none = vec![MARK; size.slots()];
+        Level { next: none.clone(), other: none.clone(), side: none }
+    }
+}
+
+/// The level whose darts are those that `present` says: next is the first present of right turn, straight on, left turn
+/// and back at the far point; other is the reversal.
+fn lines(size: Size, names: &[u16], present: impl Fn(usize) -> bool) -> Level {
+    let mut level = Level::empty(size);
+    for dart in (0..size.slots()).filter(|&d| present(d)) {
+        let far = size.far(dart).expect("a line on the sheet");
+        let heading = dart % 4;
+        let turns = [heading + 1, heading, heading + 3, heading + 2];
+        let next = turns.iter().map(|turn| 4 * far + turn % 4).find(|&d| present(d)).expect("back is present");
+        level.next[dart] = next as u16;
+        level.other[dart] = size.reversal(dart) as u16;
+        level.side[dart] = side(size, names, dart);
+    }
+    level
+}
+
+fn level_0(size: Size, names: &[u16]) -> Level {
+    lines(size, names, |dart| size.far(dart).is_some())
+}
+
+fn level_1(size: Size, names: &[u16]) -> Level {
+    lines(size, names, |dart| {
+        size.far(dart).is_some() && side(size, names, dart) != side(size, names, size.reversal(dart))
+    })
+}
+
+/// The darts of a table that leave a point.
+fn leaving(table: &[u16], point: usize) -> Vec<usize> {
+    (4 * point..4 * point + 4).filter(|&dart| table[dart] != MARK).collect()
+}
+
+/// Points of degree 3 or 4.
+fn junctions(size: Size, level_1: &Level) -> Vec<bool> {
+    (0..size.points()).map(|point| leaving(&level_1.next, point).len() >= 3).collect()
+}
+
+/// Junctions, and points of degree 2 whose lines are not in line with each other.
+fn kept_2(size: Size, level_1: &Level) -> Vec<bool> {
+    let bends = |point: usize| {
+        let darts = leaving(&level_1.next, point);
+        darts.len() == 2 && darts[1] - darts[0] != 2
+    };
+    let junctions = junctions(size, level_1);
+    (0..size.points()).map(|point| junctions[point] || bends(point)).collect()
+}
+
+/// The darts met from a dart by following next until it is met again.
+fn round(next: &[u16], start: usize) -> Vec<usize> {
+    let mut met = vec![start];
+    let mut dart = next[start] as usize;
+    while dart != start {
+        met.push(dart);
+        dart = next[dart] as usize;
+    }
+    met
+}
+
+/// The topmost, then leftmost, of the points that some darts leave.
+fn top(darts: &[usize]) -> usize {
+    darts.iter().map(|dart| dart / 4).min().expect("a dart")
+}
+
+/// Junctions, and of each closed curve without one its anchor.
+fn kept_3(size: Size, level_1: &Level) -> Vec<bool> {
+    let junctions = junctions(size, level_1);
+    let mut kept = junctions.clone();
+    let mut walked = vec![false; size.slots()];
+    for start in 0..size.slots() {
+        if level_1.next[start] == MARK || walked[start] {
+            continue;
+        }
+        let curve = round(&level_1.next, start);
+        for &dart in &curve {
+            walked[dart] = true;
+        }
+        if curve.iter().all(|dart| !junctions[dart / 4]) {
+            kept[top(&curve)] = true;
+        }
+    }
+    kept
+}
+
+/// The level whose points are the kept ones: run from each dart that leaves one along level 1 to the next.
+fn runs(size: Size, level_1: &Level, kept: &[bool]) -> Level {
+    let mut level = Level::empty(size);
+    for dart in (0..size.slots()).filter(|&d| level_1.next[d] != MARK && kept[d / 4]) {
+        let mut last = dart;
+        while !kept[size.far(last).expect("a line on the sheet")] {
+            last = level_1.next[last] as usize;
+        }
+        level.other[dart] = size.reversal(last) as u16;
+        level.next[dart] = level_1.next[last];
+        level.side[dart] = level_1.side[dart];
+    }
+    level
+}
+
+/// The tables of a level, 0 to 3.
+pub fn level(size: Size, labels: &[u16], number: u16) -> Level {
+    let names = names(size, labels);
+    if number == 0 {
+        return level_0(size, &names);
+    }
+    let level_1 = level_1(size, &names);
+    match number {
+        1 => level_1,
+        2 => runs(size, &level_1, &kept_2(size, &level_1)),
+        _ => runs(size, &level_1, &kept_3(size, &level_1)),
+    }
+}
+
+// ---------------------------------------------------------------------------------------------------------------------
+// Enclosure and the two counts
+
+/// The topmost, then leftmost, point of the piece that each point lies on, for points that have a line.
+fn tops(size: Size, side: &[u16]) -> Vec<Option<usize>> {
+    let mut tops = vec![None; size.points()];
+    for top in 0..size.points() {
+        if tops[top].is_some() || leaving(side, top).is_empty() {
+            continue;
+        }
+        tops[top] = Some(top);
+        let mut reached = vec![top];
+        while let Some(point) = reached.pop() {
+            for dart in leaving(side, point) {
+                let far = size.far(dart).expect("a line on the sheet");
+                if tops[far].is_none() {
+                    tops[far] = Some(top);
+                    reached.push(far);
+                }
+            }
+        }
+    }
+    tops
+}
+
+/// The parents of the regions in use, from the level 1 lines and their sides. The region north-west of the top of the
+/// outer piece is also the one north-east of it, which is on the left hand of the line that leaves the top eastwards.
+fn parents(size: Size, side: &[u16], in_use: impl Fn(usize) -> bool) -> Vec<u16> {
+    let tops = tops(size, side);
+    let mut parents = vec![MARK; size.names()];
+    for name in (1..size.names()).filter(|&n| in_use(n)) {
+        let first = name - 1;
+        let corner = size.point(first % size.width, first / size.width);
+        let top = tops[corner].expect("the top side of a first cell is a line");
+        parents[name] = side[size.reversal(4 * top + EAST)];
+    }
+    parents
+}
+
+/// A region's depth: the number of steps up the parents to the outside.
+pub fn depth(parents: &[u16], name: u16) -> u16 {
+    let mut depth = 0;
+    let mut region = name;
+    while region != 0 {
+        region = parents[region as usize];
+        depth += 1;
+    }
+    depth
+}
+
+/// The number of regions whose parent it is.
+pub fn holes(parents: &[u16], name: u16) -> u16 {
+    parents.iter().filter(|&&parent| parent == name).count() as u16
+}
+
+// ---------------------------------------------------------------------------------------------------------------------
+// A drawing, and joining in it
+
+/// Five tables of a drawing's kind. They are a drawing if they are the drawing of some sheet.
+#[derive(Clone, PartialEq, Eq, Debug)]
+pub struct Five {
+    pub next1: Vec<u16>,
+    pub side1: Vec<u16>,
+    pub next3: Vec<u16>,
+    pub other3: Vec<u16>,
+    pub parent: Vec<u16>,
+}
+
+impl Five {
+    pub fn fits(&self, size: Size) -> bool {
+        [&self.next1, &self.side1, &self.next3, &self.other3].iter().all(|t| t.len() == size.slots())
+            && self.parent.len() == size.names()
+    }
+}
+
+pub fn draw(size: Size, labels: &[u16]) -> Five {
+    let names = names(size, labels);
+    let level_1 = level_1(size, &names);
+    let level_3 = runs(size, &level_1, &kept_3(size, &level_1));
+    let parent = parents(size, &level_1.side, |name| names[name - 1] as usize == name);
+    Five { next1: level_1.next, side1: level_1.side, next3: level_3.next, other3: level_3.other, parent }
+}
+
+/// The name of each cell's region in a drawing, or none where the five tables are the drawing of no sheet. Two cells
+/// with no line between them bear one name; whatever sheet the tables may be the drawing of, it has these names.
+pub fn recovered(size: Size, five: &Five) -> Option<Vec<u16>> {
+    let names = flood(size, |cell, other| {
+        let last = cell.max(other);
+        let corner = size.point(last % size.width, last / size.width);
+        let along = if cell.abs_diff(other) == 1 && cell / size.width == other / size.width { SOUTH } else { EAST };
+        five.side1[4 * corner + along] == MARK
+    });
+    (draw(size, &names) == *five).then_some(names)
+}
+
+/// Whether a dart of level 1 with these sides lies between two regions.
+fn between(sides: (u16, u16), a: u16, b: u16) -> bool {
+    sides == (a, b) || sides == (b, a)
+}
+
+pub fn share_a_line(size: Size, five: &Five, a: u16, b: u16) -> bool {
+    (0..size.slots())
+        .filter(|&dart| five.side1[dart] != MARK)
+        .any(|dart| between((five.side1[dart], five.side1[size.reversal(dart)]), a, b))
+}
+
+/// Joined by drawing afresh: from the sheet whose cells bear their region names, both bearing the smaller.
+pub fn joined_afresh(size: Size, names: &[u16], a: u16, b: u16) -> Five {
+    let bear = |name: u16| if name == a || name == b { a.min(b) } else { name };
+    draw(size, &names.iter().map(|&name| bear(name)).collect::<Vec<_>>())
+}
+
+/// Takes darts away. A remaining dart's next is the first remaining among its old next, then the old next of the
+/// reversal of each taken dart met.
+fn take(next: &mut [u16], reversal: impl Fn(usize) -> usize, taken: &[bool]) {
+    let old = next.to_vec();
+    for dart in (0..old.len()).filter(|&d| old[d] != MARK) {
+        let mut met = old[dart] as usize;
+        while !taken[dart] && taken[met] {
+            met = old[reversal(met)] as usize;
+        }
+        next[dart] = if taken[dart] { MARK } else { met as u16 };
+    }
+}
+
+/// Takes darts of level 1 and of level 3 away, the darts of an edge together.
+fn take_from_both(size: Size, five: &mut Five, taken_1: &[bool], taken_3: &[bool]) {
+    take(&mut five.next1, |dart| size.reversal(dart), taken_1);
+    let other = five.other3.clone();
+    take(&mut five.next3, |dart| other[dart] as usize, taken_3);
+    for dart in 0..size.slots() {
+        if taken_1[dart] {
+            five.side1[dart] = MARK;
+        }
+        if taken_3[dart] {
+            five.other3[dart] = MARK;
+        }
+    }
+}
+
+/// Joined by the removal rule, step by step.
+pub fn joined_by_removal(size: Size, five: &Five, a: u16, b: u16) -> Five {
+    let mut five = five.clone();
+    remove_shared_lines(size, &mut five, a, b);
+    remove_hanging_ends(size, &mut five);
+    remove_points_of_two_edges(size, &mut five);
+    move_loops_to_anchors(size, &mut five);
+    rename(size, &mut five, a, b);
+    five
+}
+
+/// Step 1. The sides of a level 3 dart are its side and the side of its other.
+fn remove_shared_lines(size: Size, five: &mut Five, a: u16, b: u16) {
+    let side = &five.side1;
+    let slots = 0..size.slots();
+    let taken_1: Vec<bool> =
+        slots.clone().map(|d| five.next1[d] != MARK && between((side[d], side[size.reversal(d)]), a, b)).collect();
+    let taken_3: Vec<bool> =
+        slots.map(|d| five.next3[d] != MARK && between((side[d], side[five.other3[d] as usize]), a, b)).collect();
+    take_from_both(size, five, &taken_1, &taken_3);
+}
+
+/// Step 2. A hanging end is a point with exactly one line.
+fn remove_hanging_ends(size: Size, five: &mut Five) {
+    loop {
+        let mut taken_1 = vec![false; size.slots()];
+        let mut taken_3 = vec![false; size.slots()];
+        for point in 0..size.points() {
+            if let [dart] = leaving(&five.next1, point)[..] {
+                taken_1[dart] = true;
+                taken_1[size.reversal(dart)] = true;
+            }
+            if let [dart] = leaving(&five.next3, point)[..] {
+                taken_3[dart] = true;
+                taken_3[five.other3[dart] as usize] = true;
+            }
+        }
+        if !taken_1.contains(&true) && !taken_3.contains(&true) {
+            return;
+        }
+        take_from_both(size, five, &taken_1, &taken_3);
+    }
+}
+
+/// Step 3.
+fn remove_points_of_two_edges(size: Size, five: &mut Five) {
+    for point in 0..size.points() {
+        let [u, v] = leaving(&five.next3, point)[..] else { continue };
+        let (x, y) = (five.other3[u] as usize, five.other3[v] as usize);
+        if x == v {
+            continue;
+        }
+        let (after_u, after_v) = (five.next3[u], five.next3[v]);
+        for gone in [u, v] {
+            five.next3[gone] = MARK;
+            five.other3[gone] = MARK;
+        }
+        five.other3[x] = y as u16;
+        five.other3[y] = x as u16;
+        five.next3[x] = after_v;
+        five.next3[y] = after_u;
+    }
+}
+
+/// Step 4.
+fn move_loops_to_anchors(size: Size, five: &mut Five) {
+    for point in 0..size.points() {
+        let [u, v] = leaving(&five.next3, point)[..] else { continue };
+        if five.other3[u] as usize != v || leaving(&five.next1, point).len() != 2 {
+            continue;
+        }
+        for gone in [u, v] {
+            five.next3[gone] = MARK;
+            five.other3[gone] = MARK;
+        }
+        let anchor = top(&round(&five.next1, u));
+        let [e, f] = leaving(&five.next1, anchor)[..] else { panic!("an anchor has two lines") };
+        for (dart, other) in [(e, f), (f, e)] {
+            five.next3[dart] = dart as u16;
+            five.other3[dart] = other as u16;
+        }
+    }
+}
+
+/// Step 5.
+fn rename(size: Size, five: &mut Five, a: u16, b: u16) {
+    let (smaller, larger) = (a.min(b), a.max(b));
+    for side in five.side1.iter_mut().filter(|side| **side == larger) {
+        *side = smaller;
+    }
+    let old = five.parent.clone();
+    five.parent = parents(size, &five.side1, |name| name != larger as usize && old[name] != MARK);
+}
+
+// ---------------------------------------------------------------------------------------------------------------------
+// The calls: the refusal number, 0 for done, and what is left in each lent table
+
+fn works_fit(size: Size, works: &Works) -> bool {
+    works.iter().all(|work| work.len() == size.slots())
+}
+
+fn clear(works: &mut Works) {
+    for work in works {
+        work.fill(0);
+    }
+}
+
+pub fn level_call(width: u16, height: u16, number: u16, sheet: &[u16], tables: &mut Level, works: &mut Works) -> u16 {
+    let Some(size) = Size::new(width, height) else { return 1 };
+    if number > 3 {
+        return 2;
+    }
+    if sheet.len() != size.cells() {
+        return 3;
+    }
+    let fit = [&tables.next, &tables.other, &tables.side].iter().all(|t| t.len() == size.slots());
+    if !fit || !works_fit(size, works) {
+        return 4;
+    }
+    clear(works);
+    *tables = level(size, sheet, number);
+    0
+}
+
+pub fn draw_call(width: u16, height: u16, sheet: &[u16], five: &mut Five, works: &mut Works) -> u16 {
+    let Some(size) = Size::new(width, height) else { return 1 };
+    if sheet.len() != size.cells() {
+        return 3;
+    }
+    if !five.fits(size) || !works_fit(size, works) {
+        return 4;
+    }
+    clear(works);
+    *five = draw(size, sheet);
+    0
+}
+
+/// Refusals 1, 4 and 5, for the calls that are given a drawing; the size and the names otherwise.
+fn judged(
+    width: u16,
+    height: u16,
+    five: &Five,
+    slots_fit: impl Fn(Size) -> bool,
+    works: &mut Works,
+) -> Result<(Size, Vec<u16>), u16> {
+    let size = Size::new(width, height).ok_or(1u16)?;
+    if !five.fits(size) || !works_fit(size, works) || !slots_fit(size) {
+        return Err(4);
+    }
+    clear(works);
+    let names = recovered(size, five).ok_or(5u16)?;
+    Ok((size, names))
+}
+
+fn is_named(names: &[u16], name: u16) -> bool {
+    names.contains(&name)
+}
+
+pub fn check_call(width: u16, height: u16, five: &Five, works: &mut Works) -> u16 {
+    judged(width, height, five, |_| true, works).err().unwrap_or(0)
+}
+
+pub fn join_call(width: u16, height: u16, five: &mut Five, a: u16, b: u16, works: &mut Works) -> u16 {
+    let (size, names) = match judged(width, height, five, |_| true, works) {
+        Ok(judged) => judged,
+        Err(number) => return number,
+    };
+    if a == 0 || b == 0 {
+        return 6;
+    }
+    if a == b {
+        return 7;
+    }
+    if !is_named(&names, a) || !is_named(&names, b) {
+        return 8;
+    }
+    if !share_a_line(size, five, a, b) {
+        return 9;
+    }
+    *five = joined_afresh(size, &names, a, b);
+    0
+}
+
+/// One of the two counts of a region or of the outside, into a slot.
+fn count_call(
+    (width, height): (u16, u16),
+    five: &Five,
+    name: u16,
+    slot: &mut u16,
+    works: &mut Works,
+    count: fn(&[u16], u16) -> u16,
+) -> u16 {
+    let (_, names) = match judged(width, height, five, |_| true, works) {
+        Ok(judged) => judged,
+        Err(number) => return number,
+    };
+    if name != 0 && !is_named(&names, name) {
+        return 8;
+    }
+    *slot = count(&five.parent, name);
+    0
+}
+
+pub fn depth_call(width: u16, height: u16, five: &Five, name: u16, slot: &mut u16, works: &mut Works) -> u16 {
+    count_call((width, height), five, name, slot, works, depth)
+}
+
+pub fn holes_call(width: u16, height: u16, five: &Five, name: u16, slot: &mut u16, works: &mut Works) -> u16 {
+    count_call((width, height), five, name, slot, works, holes)
+}
+
+/// Both counts of every name, the mark for names not in use.
+pub fn counts_call(
+    width: u16,
+    height: u16,
+    five: &Five,
+    depths: &mut [u16],
+    all_holes: &mut [u16],
+    works: &mut Works,
+) -> u16 {
+    let fit = |size: Size| depths.len() == size.names() && all_holes.len() == size.names();
+    let names = match judged(width, height, five, fit, works) {
+        Ok((_, names)) => names,
+        Err(number) => return number,
+    };
+    for name in 0..depths.len() {
+        let used = name == 0 || is_named(&names, name as u16);
+        depths[name] = if used { depth(&five.parent, name as u16) } else { MARK };
+        all_holes[name] = if used { holes(&five.parent, name as u16) } else { MARK };
+    }
+    0
+}
+
+// ---------------------------------------------------------------------------------------------------------------------
+// The deck
+
+const BLANK: u8 = b' ';
+
+fn is_cell(byte: u8) -> bool {
+    (33..=126).contains(&byte)
+}
+
+/// Columns 1 to 72 filled with blanks, then the card's number, then a line feed.
+fn card(columns: &[u8], number: usize) -> Vec<u8> {
+    let mut card = columns.to_vec();
+    card.resize(72, BLANK);
+    card.extend(format!("{number:08}\n").bytes());
+    card
+}
+
+/// What a deck reads as: width, height and labels, or the refusal number and the card's.
+pub fn read(deck: &[u8]) -> Result<(u16, u16, Vec<u16>), (u16, u16)> {
+    let next_card = |number: usize| -> Result<&[u8], (u16, u16)> {
+        let refuse = |refusal: u16| Err((refusal, number as u16));
+        let begun = deck.chunks(CARD).nth(number - 1).ok_or((25, number as u16))?;
+        if begun.len() != CARD || begun[80] != b'\n' {
+            return refuse(20);
+        }
+        if begun[72..80] != *format!("{number:08}").as_bytes() {
+            return refuse(22);
+        }
+        Ok(&begun[..72])
+    };
+    let header = next_card(1)?;
+    let two_digits = |at: usize| -> Option<u16> {
+        let digits = &header[at..at + 2];
+        digits.iter().all(u8::is_ascii_digit).then(|| (digits[0] - b'0') as u16 * 10 + (digits[1] - b'0') as u16)
+    };
+    let laid_out = header[..6] == *b"SHEET " && header[10..].iter().all(|&byte| byte == BLANK);
+    let (Some(width), Some(height), true) = (two_digits(6), two_digits(8), laid_out) else { return Err((21, 1)) };
+    let size = Size::new(width, height).ok_or((21, 1))?;
+    let mut labels = Vec::new();
+    for row in 0..size.height {
+        let number = row + 2;
+        for (column, &byte) in next_card(number)?.iter().enumerate() {
+            if column < size.width {
+                if !is_cell(byte) {
+                    return Err((23, number as u16));
+                }
+                labels.push(byte as u16);
+            } else if byte != BLANK {
+                return Err((24, number as u16));
+            }
+        }
+    }
+    if deck.len() > CARD * (size.height + 1) {
+        return Err((25, height + 2));
+    }
+    Ok((width, height, labels))
+}
+
+/// The deck of a sheet whose labels are all cells of a card.
+pub fn write(size: Size, labels: &[u16]) -> Vec<u8> {
+    let mut deck = card(format!("SHEET {:02}{:02}", size.width, size.height).as_bytes(), 1);
+    for (row, labels) in labels.chunks(size.width).enumerate() {
+        deck.extend(card(&labels.iter().map(|&label| label as u8).collect::<Vec<_>>(), row + 2));
+    }
+    deck
+}
+
+/// Done: the size slots and every cell are written. Refused: the card slot is.
+pub fn read_call(deck: &[u8], cells: &mut [u16], size: &mut [u16; 2], card: &mut u16) -> u16 {
+    if cells.len() != CELLS {
+        *card = 0;
+        return 26;
+    }
+    match read(deck) {
+        Ok((width, height, labels)) => {
+            *size = [width, height];
+            cells.fill(0);
+            cells[..labels.len()].copy_from_slice(&labels);
+            0
+        }
+        Err((refusal, number)) => {
+            *card = number;
+            refusal
+        }
+    }
+}
+
+pub fn write_call(width: u16, height: u16, sheet: &[u16], deck: &mut [u8]) -> u16 {
+    let Some(size) = Size::new(width, height) else { return 1 };
+    if sheet.len() != size.cells() {
+        return 3;
+    }
+    if deck.len() != CARD * (size.height + 1) {
+        return 4;
+    }
+    if !sheet.iter().all(|&label| (33..=126).contains(&label)) {
+        return 27;
+    }
+    deck.copy_from_slice(&write(size, sheet));
+    0
+}
+
+/// The companion of the call that answers the part of a card which holds its cells.
+pub fn part_refusal_call(width: u16, card: &[u8]) -> u16 {
+    if width < 1 || width > LIMIT {
+        return 1;
+    }
+    if card.len() != CARD || card[80] != b'\n' {
+        return 20;
+    }
+    0
+}
