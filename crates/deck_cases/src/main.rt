@@ -6,9 +6,10 @@
 // Written are the refusal's number and the values. Of a read that is refused: 'kept' where the table is untouched. Of a
 // sheet that was read: its labels, 'kept' where the rest of the table is 0, the number of writing it again, and 'kept'
 // where that gave the same deck. Of a sheet that was written: the bytes, which are dots before.
-mod show;
-mod text;
 mod tried;
+
+use cases::file;
+use cases::text;
 
 // Runs the case of a line.
 fn run(line: &[u8]) {
@@ -35,37 +36,14 @@ fn run(line: &[u8]) {
 fn run_all(cases: &[u8]) {
     let mut at = 0;
     while at < cases.len() {
-        let end = text::line_end(cases, at);
-        run(&cases[at..end]);
-        at = end + 1;
+        let line = text::line(cases, at);
+        run(line);
+        at += line.len() + 1;
     }
-}
-
-// Runs the cases of a file; it may have 65,536 bytes.
-fn run_file(name: &[u8]) {
-    let file = os::open_read(name);
-    if file < 0 {
-        os::fail(name);
-        return;
-    }
-    let mut buffer = io::large_buffer();
-    let n = io::read_full(file, &mut buffer);
-    libc::close(file);
-    run_all(&buffer[..n]);
-}
-
-// Runs the cases of the file that an argument names.
-fn run_argument(i: usize) {
-    let mut name = [0u8; 256];
-    let n = os::arg(i, &mut name);
-    run_file(&name[..n]);
 }
 
 fn main() {
-    let count = os::arg_count();
-    let mut i = 1;
-    while i < count {
-        run_argument(i);
-        i += 1;
-    }
+    let mut bytes = file::room();
+    let n = file::read_all(&mut bytes);
+    run_all(&bytes[..n]);
 }

@@ -1,8 +1,8 @@
-use crate::show;
-use crate::text;
+use cases::show;
+use cases::table;
+use cases::text;
 use deck::answer::Read;
 use deck::answer::Written;
-use libc::STDOUT_FILENO;
 ghost use mathlib.Core.Path.{_≡_};
 ghost use lib.ListN.{length};
 ghost use Rattle.io.specs.Counts.{Counts};
@@ -24,17 +24,7 @@ fn untouched() -> [u16; 5185]
     [UNTOUCHED; 5185]
 }
 
-// A length, or that of the entries where it is more.
-fn most_cells(length: usize, cells: &[u16]) -> usize
-    ensures { λ r. ⌜ Counts r (now (cells .entry)) ⌝ }
-{
-    if length < cells.len() {
-        length
-    } else {
-        cells.len()
-    }
-}
-
+// A length, or that of the bytes where it is more.
 fn most_bytes(length: usize, bytes: &[u8]) -> usize
     ensures { λ r. ⌜ Counts r (now (bytes .entry)) ⌝ }
 {
@@ -61,7 +51,7 @@ fn used(cells: &[u16]) -> usize
 
 // Reads a deck into the first entries of a table.
 fn read_into(deck: &[u8], length: usize, cells: &mut [u16]) -> Read {
-    let n = most_cells(length, cells);
+    let n = table::most(length, cells);
     deck::reading::read(deck, &mut cells[..n])
 }
 
@@ -75,9 +65,9 @@ fn write_into(width: u16, height: u16, sheet: &[u16], length: usize, bytes: &mut
 fn show_again(width: u16, height: u16, sheet: &[u16], deck: &[u8]) {
     let mut again = dots();
     let answer = write_into(width, height, sheet, deck.len(), &mut again);
-    show::number(answer.number() as u64);
+    show::label(answer.number());
     let n = most_bytes(deck.len(), &again);
-    show::same(&again[..n], deck);
+    show::kept(check::same(&again[..n], deck));
 }
 
 // The labels of a sheet that was read, whether the rest of the table is 0, and whether its deck is the same again.
@@ -85,7 +75,7 @@ fn show_sheet(width: u16, height: u16, cells: &[u16], deck: &[u8]) {
     let n = used(cells);
     let sheet = &cells[..n];
     show::labels(sheet);
-    show::kept(&cells[n..], 0);
+    show::kept(table::all_are(&cells[n..], 0));
     show_again(width, height, sheet, deck);
 }
 
@@ -93,12 +83,15 @@ fn show_sheet(width: u16, height: u16, cells: &[u16], deck: &[u8]) {
 fn show_answer(answer: Read, deck: &[u8], cells: &[u16]) {
     match answer {
         Read::Sheet { width, height } => {
-            show::answer(0, width, height);
+            show::label(0);
+            show::label(width);
+            show::label(height);
             show_sheet(width, height, cells, deck);
         }
         Read::Refused { number, card } => {
-            show::refused(number, card);
-            show::kept(cells, UNTOUCHED);
+            show::label(number);
+            show::label(card);
+            show::kept(table::all_are(cells, UNTOUCHED));
         }
     }
     show::line_end();
@@ -107,7 +100,7 @@ fn show_answer(answer: Read, deck: &[u8], cells: &[u16]) {
 fn read_deck(deck: &[u8], length: usize) {
     let mut cells = untouched();
     let answer = read_into(deck, length, &mut cells);
-    let n = most_cells(length, &cells);
+    let n = table::most(length, &cells);
     show_answer(answer, deck, &cells[..n]);
 }
 
@@ -115,13 +108,13 @@ fn read_deck(deck: &[u8], length: usize) {
 pub(crate) fn read(line: &[u8], length: usize) {
     let mut bytes = dots();
     let n = text::decode(line, &mut bytes);
-    io::write_all(STDOUT_FILENO, b"read");
+    show::text(b"read");
     read_deck(&bytes[..n], length);
 }
 
 // The part of a card that holds its cells.
 fn show_part(width: u16, card: &[u8]) {
-    show::number(deck::card::part_refusal(width, card) as u64);
+    show::label(deck::card::part_refusal(width, card));
     show::bytes(deck::card::part(width, card));
     show::line_end();
 }
@@ -130,7 +123,7 @@ fn show_part(width: u16, card: &[u8]) {
 pub(crate) fn part(line: &[u8], width: u16) {
     let mut bytes = dots();
     let n = text::decode(line, &mut bytes);
-    io::write_all(STDOUT_FILENO, b"part");
+    show::text(b"part");
     show_part(width, &bytes[..n]);
 }
 
@@ -138,18 +131,18 @@ pub(crate) fn part(line: &[u8], width: u16) {
 fn show_written(width: u16, height: u16, sheet: &[u16], length: usize) {
     let mut bytes = dots();
     let answer = write_into(width, height, sheet, length, &mut bytes);
-    show::number(answer.number() as u64);
+    show::label(answer.number());
     show::line_end();
     let n = most_bytes(length, &bytes);
-    io::write_all(STDOUT_FILENO, &bytes[..n]);
+    show::text(&bytes[..n]);
     show::line_end();
 }
 
 // Writes a sheet.
 fn write_sheet(width: u32, height: u32, length: u32, line: &[u8]) {
     let mut sheet = untouched();
-    let n = text::labels(line, &mut sheet);
-    io::write_all(STDOUT_FILENO, b"write");
+    let n = text::numbers(line, &mut sheet);
+    show::text(b"write");
     show_written(
         (width % 65536) as u16,
         (height % 65536) as u16,

@@ -1,0 +1,52 @@
+use crate::table;
+ghost use Rattle.cases.specs.Room.{Fits};
+
+// How long the five tables and the four work tables of a case are.
+pub struct Lengths {
+    pub next1: usize,
+    pub side1: usize,
+    pub next3: usize,
+    pub other3: usize,
+    pub parent: usize,
+    pub a: usize,
+    pub b: usize,
+    pub c: usize,
+    pub d: usize,
+}
+
+// The lengths that a list gives.
+pub fn given(lengths: &[u16]) -> Lengths
+    ensures { λ r. ⌜ Fits r ⌝ }
+{
+    Lengths {
+        next1: table::length(lengths, 0),
+        side1: table::length(lengths, 1),
+        next3: table::length(lengths, 2),
+        other3: table::length(lengths, 3),
+        parent: table::length(lengths, 4),
+        a: table::length(lengths, 5),
+        b: table::length(lengths, 6),
+        c: table::length(lengths, 7),
+        d: table::length(lengths, 8),
+    }
+}
+
+// The stated lengths for a sheet of a size.
+pub fn stated(width: u16, height: u16) -> Lengths
+    ensures { λ r. ⌜ Fits r ⌝ }
+{
+    let slots = table::slots(width, height);
+    let names = table::names(width, height);
+    let lengths = [
+        slots,
+        slots,
+        slots,
+        slots,
+        names,
+        slots,
+        slots,
+        slots,
+        slots,
+    ];
+    given(&lengths)
+}

@@ -1,0 +1,101 @@
+use crate::table;
+use libc::STDOUT_FILENO;
+
+// Writes bytes as they are.
+pub fn text(text: &[u8]) {
+    io::write_all(STDOUT_FILENO, text);
+}
+
+pub fn line_end() {
+    io::write_all(STDOUT_FILENO, b"\n");
+}
+
+// Writes a number, with a blank before it.
+pub fn number(value: u64) {
+    io::write_all(STDOUT_FILENO, b" ");
+    io::print_decimal(STDOUT_FILENO, value);
+}
+
+// Writes a label, a dart, a name or a refusal's number.
+pub fn label(value: u16) {
+    number(value as u64);
+}
+
+fn byte(value: u8) {
+    number(value as u64);
+}
+
+// Writes labels, each with a blank before it.
+pub fn labels(values: &[u16]) {
+    let mut i = 0;
+    while i < values.len() {
+        label(values[i]);
+        i += 1;
+    }
+}
+
+// Writes bytes as numbers, each with a blank before it.
+pub fn bytes(values: &[u8]) {
+    let mut i = 0;
+    while i < values.len() {
+        byte(values[i]);
+        i += 1;
+    }
+}
+
+// Writes a table, in full or by its sum, after a semicolon.
+pub fn table(table: &[u16], full: bool) {
+    io::write_all(STDOUT_FILENO, b" ;");
+    if full {
+        labels(table);
+        return;
+    }
+    number(table::sum(table));
+}
+
+// Writes the five tables of a drawing, in full or by their sums.
+pub fn drawing(
+    next1: &[u16],
+    side1: &[u16],
+    next3: &[u16],
+    other3: &[u16],
+    parent: &[u16],
+    full: bool,
+) {
+    table(next1, full);
+    table(side1, full);
+    table(next3, full);
+    table(other3, full);
+    table(parent, full);
+}
+
+// Writes whether what was lent is as it was.
+pub fn kept(kept: bool) {
+    if kept {
+        io::write_all(STDOUT_FILENO, b" kept");
+    } else {
+        io::write_all(STDOUT_FILENO, b" changed");
+    }
+}
+
+// Writes whether the work tables are all 0.
+fn cleared(cleared: bool) {
+    if cleared {
+        io::write_all(STDOUT_FILENO, b" cleared");
+    } else {
+        io::write_all(STDOUT_FILENO, b" uncleared");
+    }
+}
+
+// Writes whether the work tables are as they were, for the refusals 1 to 4, and else whether they are all 0.
+pub fn work(number: u16, a: &[u16], b: &[u16], c: &[u16], d: &[u16]) {
+    if number == 0 {
+        cleared(table::four_are(a, b, c, d, 0));
+        return;
+    }
+    if 4 < number {
+        cleared(table::four_are(a, b, c, d, 0));
+        return;
+    }
+    kept(table::four_are(a, b, c, d, table::UNTOUCHED));
+}

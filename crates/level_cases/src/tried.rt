@@ -1,0 +1,171 @@
+use cases::made;
+use cases::show;
+use cases::table;
+use table::entry;
+ghost use Prim.Native.Nat.{_≤_};
+ghost use Rattle.cases.specs.Room.{room};
+
+// The width, the height and the level of a case.
+pub struct Case {
+    pub width: u16,
+    pub height: u16,
+    pub level: u16,
+}
+
+// How long the result and work tables of a case are.
+pub struct Lengths {
+    pub next: usize,
+    pub other: usize,
+    pub side: usize,
+    pub a: usize,
+    pub b: usize,
+    pub c: usize,
+    pub d: usize,
+}
+
+// The lengths that a case gives.
+fn lengths_of(lengths: &[u16]) -> Lengths
+    ensures { λ r. ⌜
+        (r .next ≤ room) × (r .other ≤ room) × (r .side ≤ room) × (r .a ≤ room) × (r .b ≤ room) × (r .c ≤ room) ×
+        (r .d ≤ room)
+        ⌝ }
+{
+    Lengths {
+        next: table::length(lengths, 0),
+        other: table::length(lengths, 1),
+        side: table::length(lengths, 2),
+        a: table::length(lengths, 3),
+        b: table::length(lengths, 4),
+        c: table::length(lengths, 5),
+        d: table::length(lengths, 6),
+    }
+}
+
+// Whether the result tables are as they were.
+fn untouched(next: &[u16], other: &[u16], side: &[u16]) -> bool {
+    if !table::all_are(next, table::UNTOUCHED) {
+        return false;
+    }
+    if !table::all_are(other, table::UNTOUCHED) {
+        return false;
+    }
+    table::all_are(side, table::UNTOUCHED)
+}
+
+// The result tables of a level that was drawn, in full or their sums; of a refusal, whether they are as they were.
+fn show_tables(number: u16, next: &[u16], other: &[u16], side: &[u16], full: bool) {
+    if number == 0 {
+        show::table(next, full);
+        show::table(other, full);
+        show::table(side, full);
+        return;
+    }
+    show::kept(untouched(next, other, side));
+}
+
+// Draws a level of a sheet into these tables.
+fn draw(
+    case: Case,
+    sheet: &[u16],
+    full: bool,
+    next: &mut [u16],
+    other: &mut [u16],
+    side: &mut [u16],
+    a: &mut [u16],
+    b: &mut [u16],
+    c: &mut [u16],
+    d: &mut [u16],
+) {
+    let answer = level::draw::draw(
+        case.width,
+        case.height,
+        case.level,
+        sheet,
+        next,
+        other,
+        side,
+        a,
+        b,
+        c,
+        d,
+    );
+    let number = answer.number();
+    show::label(number);
+    show_tables(number, next, other, side, full);
+    show::work(number, a, b, c, d);
+}
+
+// Draws a level of a sheet into tables of these lengths.
+fn draw_lengths(case: Case, sheet: &[u16], full: bool, lengths: Lengths)
+    requires { ⌜
+        (lengths .next ≤ room) × (lengths .other ≤ room) × (lengths .side ≤ room) × (lengths .a ≤ room) ×
+        (lengths .b ≤ room) × (lengths .c ≤ room) × (lengths .d ≤ room)
+        ⌝ }
+{
+    let n = lengths.next;
+    let o = lengths.other;
+    let s = lengths.side;
+    let ka = lengths.a;
+    let kb = lengths.b;
+    let kc = lengths.c;
+    let kd = lengths.d;
+    let mut next = [table::UNTOUCHED; table::ROOM];
+    let mut other = [table::UNTOUCHED; table::ROOM];
+    let mut side = [table::UNTOUCHED; table::ROOM];
+    let mut a = [table::UNTOUCHED; table::ROOM];
+    let mut b = [table::UNTOUCHED; table::ROOM];
+    let mut c = [table::UNTOUCHED; table::ROOM];
+    let mut d = [table::UNTOUCHED; table::ROOM];
+    draw(
+        case,
+        sheet,
+        full,
+        &mut next[..n],
+        &mut other[..o],
+        &mut side[..s],
+        &mut a[..ka],
+        &mut b[..kb],
+        &mut c[..kc],
+        &mut d[..kd],
+    );
+}
+
+// Draws the sheet of a case.
+fn draw_case(case: Case, sheet: &[u16], lengths: &[u16], full: bool) {
+    show::text(b"level");
+    draw_lengths(case, sheet, full, lengths_of(lengths));
+    show::line_end();
+}
+
+// Draws the sheet of a case into tables of slot length.
+fn draw_slots(case: Case, sheet: &[u16], full: bool) {
+    let slots = table::slots(case.width, case.height);
+    let lengths = [slots; 7];
+    draw_case(case, sheet, &lengths, full);
+}
+
+// Draws a sheet that is made by a rule.
+fn draw_made(case: Case, kind: u8, values: &[u16]) {
+    let mut sheet = made::room();
+    let n = made::sheet(kind, case.width, case.height, values, &mut sheet);
+    draw_slots(case, &sheet[..n], false);
+}
+
+// Runs a case.
+pub(crate) fn run(kind: u8, values: &[u16]) {
+    let case = Case {
+        width: entry::get(values, 0),
+        height: entry::get(values, 1),
+        level: entry::get(values, 2),
+    };
+    let rest = table::from(values, 3);
+    if kind == b'T' {
+        draw_slots(case, rest, true);
+        return;
+    }
+    if kind == b'L' {
+        draw_case(case, table::from(rest, 7), rest, true);
+        return;
+    }
+    draw_made(case, kind, rest);
+}
