@@ -1,4 +1,4 @@
-use crate::table;
+use crate::lent;
 ghost use Rattle.cases.specs.Room.{Fits};
 
 // How long the five tables and the four work tables of a case are.
@@ -19,15 +19,15 @@ pub fn given(lengths: &[u16]) -> Lengths
     ensures { λ r. ⌜ Fits r ⌝ }
 {
     Lengths {
-        next1: table::length(lengths, 0),
-        side1: table::length(lengths, 1),
-        next3: table::length(lengths, 2),
-        other3: table::length(lengths, 3),
-        parent: table::length(lengths, 4),
-        a: table::length(lengths, 5),
-        b: table::length(lengths, 6),
-        c: table::length(lengths, 7),
-        d: table::length(lengths, 8),
+        next1: lent::length(lengths, 0),
+        side1: lent::length(lengths, 1),
+        next3: lent::length(lengths, 2),
+        other3: lent::length(lengths, 3),
+        parent: lent::length(lengths, 4),
+        a: lent::length(lengths, 5),
+        b: lent::length(lengths, 6),
+        c: lent::length(lengths, 7),
+        d: lent::length(lengths, 8),
     }
 }
 
@@ -35,8 +35,8 @@ pub fn given(lengths: &[u16]) -> Lengths
 pub fn stated(width: u16, height: u16) -> Lengths
     ensures { λ r. ⌜ Fits r ⌝ }
 {
-    let slots = table::slots(width, height);
-    let names = table::names(width, height);
+    let slots = lent::slots(width, height);
+    let names = lent::names(width, height);
     let lengths = [
         slots,
         slots,

@@ -2,7 +2,7 @@
 // answers. A case is a line: a letter, and numbers parted by single blanks.
 pub mod file;
 pub mod lengths;
+pub mod lent;
 pub mod made;
 pub mod show;
-pub mod table;
 pub mod text;

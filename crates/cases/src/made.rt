@@ -1,4 +1,4 @@
-use crate::table;
+use crate::lent;
 ghost use mathlib.Core.Path.{_≡_};
 ghost use lib.ListN.{length};
 ghost use Rattle.io.specs.Counts.{Counts};
@@ -90,7 +90,7 @@ fn fill(kind: u8, width: u16, height: u16, values: &[u16], sheet: &mut [u16]) {
         by_chance(values, sheet);
         return;
     }
-    table::copy(values, sheet);
+    lent::copy(values, sheet);
 }
 
 // Labels by chance, from a seed and a number of labels.
@@ -104,9 +104,9 @@ fn by_chance(values: &[u16], sheet: &mut [u16]) {
 pub fn sheet(kind: u8, width: u16, height: u16, values: &[u16], room: &mut [u16]) -> usize
     ensures { λ r. ⌜ Counts r (now (room .exit)) ⌝ }
 {
-    let n = table::most(table::cells(width, height), room);
+    let n = lent::most(lent::cells(width, height), room);
     fill(kind, width, height, values, &mut room[..n]);
-    table::most(n, room)
+    lent::most(n, room)
 }
 
 // Room for the cells of a sheet, and a few more.

@@ -1,4 +1,4 @@
-use crate::table;
+use crate::lent;
 use libc::STDOUT_FILENO;
 
 // Writes bytes as they are.
@@ -50,7 +50,7 @@ pub fn table(table: &[u16], full: bool) {
         labels(table);
         return;
     }
-    number(table::sum(table));
+    number(lent::sum(table));
 }
 
 // Writes the five tables of a drawing, in full or by their sums.
@@ -90,12 +90,12 @@ fn cleared(cleared: bool) {
 // Writes whether the work tables are as they were, for the refusals 1 to 4, and else whether they are all 0.
 pub fn work(number: u16, a: &[u16], b: &[u16], c: &[u16], d: &[u16]) {
     if number == 0 {
-        cleared(table::four_are(a, b, c, d, 0));
+        cleared(lent::four_are(a, b, c, d, 0));
         return;
     }
     if 4 < number {
-        cleared(table::four_are(a, b, c, d, 0));
+        cleared(lent::four_are(a, b, c, d, 0));
         return;
     }
-    kept(table::four_are(a, b, c, d, table::UNTOUCHED));
+    kept(lent::four_are(a, b, c, d, lent::UNTOUCHED));
 }

@@ -30,14 +30,15 @@ unfolding dart
 top-fit t p r h = let u = r .up p in omega arith
 
 -- a point is treated by what is seen there
-module _ (o : ℕ → Bool) (t : List ℕ) (l : Links) (p c u v : ℕ) (s : SeenAt (mask (on (l .next)) p) p c u v) where
-  pub close-other : (c ≡ 2 → ⊥) → l ≡ close o t l p
+module _ (o : ℕ → Bool) (t : List ℕ) (l : Links) (p : ℕ) (c : Bool) (u v : ℕ)
+    (s : SeenAt (mask (on (l .next)) p) p c u v) where
+  pub close-other : c ≡ false → l ≡ close o t l p
   unfolding close
-  close-other n = rw (ne-eqb (degree (mask (on (l .next)) p)) 2 (λ q. n (s .many ∙ q)), close)
+  close-other n = rw (sym (s .two) ∙ n, close)
 
-  module _ (two : c ≡ 2) (x : ℕ) (e : x ≡ at (l .other) u) where
+  module _ (two : c ≡ true) (x : ℕ) (e : x ≡ at (l .other) u) where
     here : eqb (degree (mask (on (l .next)) p)) 2 ≡ true
-    here = eq-eqb (degree (mask (on (l .next)) p)) 2 (sym (s .many) ∙ two)
+    here = sym (s .two) ∙ two
 
     abbrev ends : Bool
     ends = eqb (at (l .other) (dart p (low (mask (on (l .next)) p)))) (dart p (high (mask (on (l .next)) p)))
@@ -51,20 +52,19 @@ module _ (o : ℕ → Bool) (t : List ℕ) (l : Links) (p c u v : ℕ) (s : Seen
         let f : ends ≡ false = ne-eqb _ _ (λ q. n (sym across ∙ q ∙ sym (s .last))) in
         rw (here, f, close)
 
-    module _ (loop : x ≡ v) (b y z : ℕ) (r : SeenAt (mask o p) p b y z) where
+    module _ (loop : x ≡ v) (b : Bool) (y z : ℕ) (r : SeenAt (mask o p) p b y z) where
       round : ends ≡ true
       round = eq-eqb _ _ (across ∙ loop ∙ s .last)
 
-      pub close-big : (b ≡ 2 → ⊥) → l ≡ close o t l p
+      pub close-big : b ≡ false → l ≡ close o t l p
       unfolding close
-      close-big n = rw (here, round, ne-eqb (degree (mask o p)) 2 (λ q. n (r .many ∙ q)), close)
+      close-big n = rw (here, round, sym (r .two) ∙ n, close)
 
-      pub close-loop : b ≡ 2 → (k e f : ℕ) → SeenAt (mask o (getD t p 0)) (getD t p 0) k e f
+      pub close-loop : b ≡ true → (k : Bool) (e f : ℕ) → SeenAt (mask o (getD t p 0)) (getD t p 0) k e f
           → moved l u v e f ≡ close o t l p
       unfolding close
       close-loop h k e f a =
-          let two = eq-eqb (degree (mask o p)) 2 (sym (r .many) ∙ h) in
-          rw (here, round, two, s .first, s .last, a .first, a .last, close)
+          rw (here, round, sym (r .two) ∙ h, s .first, s .last, a .first, a .last, close)
 
 module _ (o : ℕ → Bool) (t : List ℕ) where
   pub closes-none : (p : ℕ) (l : Links) → closes o t zero p l ≡ l

@@ -1,5 +1,5 @@
 -- Step 3: a point that two darts alone leave, of two different edges.
---   SeenAt m p c u v == of the lines m at point p: c is how many, u and v are the darts of the first and of the last
+--   SeenAt m p b u v == of the lines m at point p: b, they are two; u and v, the darts of the first and of the last
 --   splice l u v    == the links without darts u and v, where they are of two different edges
 --   smooth l p      == the links without point p, where two darts of two different edges alone leave it
 use mathlib.Core.Path.{_≡_, refl, sym, _∙_}
@@ -41,13 +41,13 @@ module _ (l : Links) (u v : ℕ) where
   unfolding splice
   splice-edges x y e n f = rw (e, f, ne-eqb (at (l .other) u) v (λ q. n (e ∙ q)), splice)
 
--- a point is treated by how many darts are seen there
-module _ (l : Links) (p c u v : ℕ) (s : SeenAt (mask (on (l .next)) p) p c u v) where
-  pub smooth-other : (c ≡ 2 → ⊥) → l ≡ smooth l p
+-- a point is treated by whether two darts are seen there
+module _ (l : Links) (p : ℕ) (c : Bool) (u v : ℕ) (s : SeenAt (mask (on (l .next)) p) p c u v) where
+  pub smooth-other : c ≡ false → l ≡ smooth l p
   unfolding smooth
-  smooth-other n = rw (ne-eqb (degree (mask (on (l .next)) p)) 2 (λ q. n (s .many ∙ q)), smooth)
+  smooth-other n = rw (sym (s .two) ∙ n, smooth)
 
-  pub smooth-two : c ≡ 2 → splice l u v ≡ smooth l p
+  pub smooth-two : c ≡ true → splice l u v ≡ smooth l p
   unfolding smooth
   smooth-two e = rw (s .first, s .last) (go (eqb x y) refl)
     where
@@ -61,7 +61,7 @@ module _ (l : Links) (p c u v : ℕ) (s : SeenAt (mask (on (l .next)) p) p c u v
       y = dart p (high m)
 
       two : eqb (degree m) 2 ≡ true
-      two = eq-eqb (degree m) 2 (sym (s .many) ∙ e)
+      two = sym (s .two) ∙ e
 
       go : (b : Bool) → eqb x y ≡ b → splice l (dart p (low m)) y ≡ smooth l p
       go true q = sym (splice-loop l (dart p (low m)) y x refl (eqb-true x y q)) ∙ rw (two, q, smooth)

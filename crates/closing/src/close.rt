@@ -1,5 +1,6 @@
 use plane::dart;
 use removal::ends;
+use rules::turn;
 use table::entry;
 ghost use mathlib.Core.Path.{_≡_};
 ghost use mathlib.Core.Bool.{true};
@@ -7,6 +8,7 @@ ghost use Prim.Native.Nat.{_<_};
 ghost use lib.ListN.{length};
 ghost use Rattle.plane.specs.Size.{within};
 ghost use Rattle.plane.specs.Dart.{mark, points, dart};
+ghost use Rattle.rules.specs.Turn.{kinding};
 ghost use Rattle.paper.specs.Joining.{on, moved, close, closes};
 ghost use Rattle.removal.specs.Links.{links};
 ghost use Rattle.enclosure.specs.Tops.{Rising};
@@ -24,15 +26,24 @@ fn move_loop(next: &mut [u16], other: &mut [u16], u: u16, v: u16, e: u16, f: u16
 }
 
 // A loop's point that has only two lines left gives way to the top of its piece.
-fn close_point(lines: &[u16], tops: &[u16], next: &mut [u16], other: &mut [u16], point: u16)
-    requires { ⌜ (dart point 3 < mark) × (point < length (now tops)) × Rising (now tops) ⌝ }
+fn close_point(
+    kinds: &[u16; 16],
+    lines: &[u16],
+    tops: &[u16],
+    next: &mut [u16],
+    other: &mut [u16],
+    point: u16,
+)
+    requires { ⌜
+        (now kinds ≡ kinding) × (dart point 3 < mark) × (point < length (now tops)) × Rising (now tops)
+        ⌝ }
     ensures { λ _. ⌜
         links (now (next .exit)) (now (other .exit)) ≡
         close (on (now (lines .entry))) (now (tops .entry)) (links (now (next .entry)) (now (other .entry))) point
         ⌝ }
 {
-    let seen = ends::seen(next, point);
-    if seen.count != 2 {
+    let seen = ends::seen(kinds, next, point);
+    if !seen.two {
         return;
     }
     let u = seen.first;
@@ -41,11 +52,11 @@ fn close_point(lines: &[u16], tops: &[u16], next: &mut [u16], other: &mut [u16],
     if x != v {
         return;
     }
-    let left = ends::seen(lines, point);
-    if left.count != 2 {
+    let left = ends::seen(kinds, lines, point);
+    if !left.two {
         return;
     }
-    let anchor = ends::seen(lines, tops[point as usize]);
+    let anchor = ends::seen(kinds, lines, tops[point as usize]);
     move_loop(next, other, u, v, anchor.first, anchor.last);
 }
 
@@ -66,10 +77,11 @@ pub fn close(
         (links (now (next .entry)) (now (other .entry)))
         ⌝ }
 {
+    let kinds = turn::kinds();
     let n = (width + 1) * (height + 1);
     let mut p: u16 = 0;
     while p < n {
-        close_point(lines, tops, next, other, p);
+        close_point(&kinds, lines, tops, next, other, p);
         p += 1;
     }
 }

@@ -1,5 +1,6 @@
 use plane::dart;
 use removal::ends;
+use rules::turn;
 use table::entry;
 ghost use mathlib.Core.Path.{_≡_};
 ghost use mathlib.Core.Bool.{true};
@@ -7,6 +8,7 @@ ghost use mathlib.Core.List.{List};
 ghost use Prim.Native.Nat.{ℕ, _<_};
 ghost use Rattle.plane.specs.Size.{within};
 ghost use Rattle.plane.specs.Dart.{mark, dart};
+ghost use Rattle.rules.specs.Turn.{kinding};
 ghost use Rattle.paper.specs.Joining.{spliced, smooth, smoothed};
 ghost use Rattle.removal.specs.Links.{links, splice};
 
@@ -48,14 +50,14 @@ fn smooth_edge(next: &mut [u16], other: &mut [u16], u: u16, v: u16)
 }
 
 // A point goes where two darts of two different edges alone leave it.
-fn smooth_point(next: &mut [u16], other: &mut [u16], point: u16)
-    requires { ⌜ dart point 3 < mark ⌝ }
+fn smooth_point(kinds: &[u16; 16], next: &mut [u16], other: &mut [u16], point: u16)
+    requires { ⌜ (now kinds ≡ kinding) × (dart point 3 < mark) ⌝ }
     ensures { λ _. ⌜
         links (now (next .exit)) (now (other .exit)) ≡ smooth (links (now (next .entry)) (now (other .entry))) point
         ⌝ }
 {
-    let seen = ends::seen(next, point);
-    if seen.count != 2 {
+    let seen = ends::seen(kinds, next, point);
+    if !seen.two {
         return;
     }
     smooth_edge(next, other, seen.first, seen.last);
@@ -69,10 +71,11 @@ pub fn smooth(width: u16, height: u16, next: &mut [u16], other: &mut [u16])
         smoothed width height (links (now (next .entry)) (now (other .entry)))
         ⌝ }
 {
+    let kinds = turn::kinds();
     let n = (width + 1) * (height + 1);
     let mut p: u16 = 0;
     while p < n {
-        smooth_point(next, other, p);
+        smooth_point(&kinds, next, other, p);
         p += 1;
     }
 }

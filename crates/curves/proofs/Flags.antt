@@ -17,9 +17,9 @@ use borrow.Author.Tests.{eq-eqb, ne-eqb, le-ltb}
 use Rattle.laws.specs.Table.{table, number, some}
 use Rattle.laws.proofs.Table.{length-table, getD-table, getD-table-past, table-agree}
 use Rattle.plane.specs.Dart.{mark, points}
-use Rattle.plane.specs.Turn.{becomesOf}
+use Rattle.rules.specs.Turn.{becomesOf, kinding}
 use Rattle.paper.specs.Joining.{at}
-use Rattle.curves.specs.Keep.{kinding, kindAt, large, stands, anchored, settles, keeps}
+use Rattle.curves.specs.Keep.{kindAt, large, stands, anchored, settles, keeps}
 use Rattle.table.proofs.Entries.{values-table}
 
 -- The kind of a mask; no mask is large or a corner that is not among the sixteen.

@@ -1,7 +1,6 @@
 -- The points that levels 2 and 3 keep, as tables of 1 for kept and 0, from a table m of masks (the paper, "The four levels").
 --   bends w h m    == level 2: three or four lines, or a corner
 --   large m q       == three or four lines at point q
---   kinding         == what the point table says of each mask where no line is taken
 --   stands n m t p  == the table t names point p at a large point below n
 --   keeps w h m t  == level 3: the large points, and, with t the least points of the pieces, the anchors: a point with lines
 --                      that stands for its piece, where it stands for no large point
@@ -11,11 +10,8 @@ use Prim.Native.Nat.{ℕ}
 use lib.Dec.{eqb}
 use Rattle.laws.specs.Table.{table, number, some}
 use Rattle.plane.specs.Dart.{points}
-use Rattle.plane.specs.Turn.{becomesOf}
+use Rattle.rules.specs.Turn.{becomesOf}
 use Rattle.paper.specs.Joining.{at}
-
-unfoldable pub kinding : List ℕ
-kinding = table 16 (λ m. becomesOf m 0)
 
 -- what the point table says of a point where no line is taken
 unfoldable pub kindAt : List ℕ → ℕ → ℕ

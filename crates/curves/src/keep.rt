@@ -1,4 +1,4 @@
-use plane::turn;
+use rules::turn;
 use table::entry;
 ghost use mathlib.Core.Path.{_≡_};
 ghost use mathlib.Core.Bool.{true, _||_, _&&_, not};
@@ -7,26 +7,9 @@ ghost use lib.ListN.{length, replicate};
 ghost use Rattle.laws.specs.Table.{table, number};
 ghost use Rattle.plane.specs.Size.{within};
 ghost use Rattle.plane.specs.Dart.{points};
+ghost use Rattle.rules.specs.Turn.{kinding};
 ghost use Rattle.paper.specs.Joining.{at};
-ghost use Rattle.curves.specs.Keep.{kinding, stands, settles, bends, keeps};
-
-// What the point table says of a corner, and of three or four lines.
-const CORNER: u16 = 2;
-
-const LARGE: u16 = 3;
-
-// What the point table says of each mask where no line is taken.
-fn kinds() -> [u16; 16]
-    ensures { λ r. ⌜ r ≡ kinding ⌝ }
-{
-    let mut kinds = [0u16; 16];
-    let mut lines: u16 = 0;
-    while lines < 16 {
-        kinds[lines as usize] = turn::becomes(lines, 0);
-        lines += 1;
-    }
-    kinds
-}
+ghost use Rattle.curves.specs.Keep.{stands, settles, bends, keeps};
 
 // 1 for a point with three or four lines, or with a corner; else 0.
 fn bend(kinds: &[u16; 16], lines: u16) -> u16
@@ -35,10 +18,10 @@ fn bend(kinds: &[u16; 16], lines: u16) -> u16
         ⌝ }
 {
     let kind = entry::get(kinds, lines);
-    if kind == LARGE {
+    if kind == turn::LARGE {
         return 1;
     }
-    if kind == CORNER {
+    if kind == turn::CORNER {
         return 1;
     }
     0
@@ -49,7 +32,7 @@ pub fn bends(width: u16, height: u16, masks: &[u16], kept: &mut [u16])
     requires { ⌜ (length (now masks) ≡ points width height) × (length (now kept) ≡ points width height) ⌝ }
     ensures { λ _. ⌜ now (kept .exit) ≡ bends width height (now (masks .entry)) ⌝ }
 {
-    let kinds = kinds();
+    let kinds = turn::kinds();
     let n = kept.len();
     let mut i = 0;
     while i < n {
@@ -73,7 +56,7 @@ fn flag(kinds: &[u16; 16], masks: &[u16], tops: &[u16], kept: &mut [u16])
     let n = masks.len();
     let mut i = 0;
     while i < n {
-        if entry::get(kinds, masks[i]) == LARGE {
+        if entry::get(kinds, masks[i]) == turn::LARGE {
             entry::put(kept, tops[i], 1);
         }
         i += 1;
@@ -88,7 +71,7 @@ fn settled(kinds: &[u16; 16], lines: u16, top: u16, p: u16, flag: u16) -> u16
         (eqb (at (now (kinds .entry)) lines) 3 || (not (eqb lines 0) && eqb top p && not (eqb flag 1)))
         ⌝ }
 {
-    if entry::get(kinds, lines) == LARGE {
+    if entry::get(kinds, lines) == turn::LARGE {
         return 1;
     }
     if lines == 0 {
@@ -128,7 +111,7 @@ pub fn keeps(width: u16, height: u16, masks: &[u16], tops: &[u16], kept: &mut [u
         ⌝ }
     ensures { λ _. ⌜ now (kept .exit) ≡ keeps width height (now (masks .entry)) (now (tops .entry)) ⌝ }
 {
-    let kinds = kinds();
+    let kinds = turn::kinds();
     entry::clear(kept);
     flag(&kinds, masks, tops, kept);
     settle(&kinds, masks, tops, kept, (width + 1) * (height + 1));

@@ -1,5 +1,5 @@
+use cases::lent;
 use cases::show;
-use cases::table;
 use cases::text;
 use deck::answer::Read;
 use deck::answer::Written;
@@ -51,7 +51,7 @@ fn used(cells: &[u16]) -> usize
 
 // Reads a deck into the first entries of a table.
 fn read_into(deck: &[u8], length: usize, cells: &mut [u16]) -> Read {
-    let n = table::most(length, cells);
+    let n = lent::most(length, cells);
     deck::reading::read(deck, &mut cells[..n])
 }
 
@@ -75,7 +75,7 @@ fn show_sheet(width: u16, height: u16, cells: &[u16], deck: &[u8]) {
     let n = used(cells);
     let sheet = &cells[..n];
     show::labels(sheet);
-    show::kept(table::all_are(&cells[n..], 0));
+    show::kept(lent::all_are(&cells[n..], 0));
     show_again(width, height, sheet, deck);
 }
 
@@ -91,7 +91,7 @@ fn show_answer(answer: Read, deck: &[u8], cells: &[u16]) {
         Read::Refused { number, card } => {
             show::label(number);
             show::label(card);
-            show::kept(table::all_are(cells, UNTOUCHED));
+            show::kept(lent::all_are(cells, UNTOUCHED));
         }
     }
     show::line_end();
@@ -100,7 +100,7 @@ fn show_answer(answer: Read, deck: &[u8], cells: &[u16]) {
 fn read_deck(deck: &[u8], length: usize) {
     let mut cells = untouched();
     let answer = read_into(deck, length, &mut cells);
-    let n = table::most(length, &cells);
+    let n = lent::most(length, &cells);
     show_answer(answer, deck, &cells[..n]);
 }
 

@@ -1,5 +1,5 @@
+use cases::lent;
 use cases::show;
-use cases::table;
 use counts::count;
 use counts::count::Count;
 use plane::dart;
@@ -24,7 +24,7 @@ pub(crate) fn judge(
     c: &mut [u16],
     d: &mut [u16],
 ) {
-    table::soil(a, b, c, d);
+    lent::soil(a, b, c, d);
     let answer = judge::check(
         size.width,
         size.height,
@@ -72,8 +72,8 @@ fn show_one(name: u16, depth: u16, holes: u16) {
 // they were.
 fn show_counts(number: u16, depths: &[u16], holes: &[u16], full: bool) {
     if number != 0 {
-        show::kept(table::all_are(depths, table::UNTOUCHED));
-        show::kept(table::all_are(holes, table::UNTOUCHED));
+        show::kept(lent::all_are(depths, lent::UNTOUCHED));
+        show::kept(lent::all_are(holes, lent::UNTOUCHED));
         return;
     }
     if full {
@@ -139,7 +139,7 @@ pub(crate) fn counts(
     c: &mut [u16],
     d: &mut [u16],
 ) {
-    table::soil(a, b, c, d);
+    lent::soil(a, b, c, d);
     count_all(
         size,
         full,
@@ -179,7 +179,7 @@ pub(crate) fn depth(
     c: &mut [u16],
     d: &mut [u16],
 ) {
-    table::soil(a, b, c, d);
+    lent::soil(a, b, c, d);
     let answer = count::depth(
         size.width,
         size.height,
@@ -214,7 +214,7 @@ pub(crate) fn holes(
     c: &mut [u16],
     d: &mut [u16],
 ) {
-    table::soil(a, b, c, d);
+    lent::soil(a, b, c, d);
     let answer = count::holes(
         size.width,
         size.height,
@@ -302,7 +302,7 @@ pub(crate) fn names(
     d: &mut [u16],
 ) {
     show::text(b"names");
-    let count = table::names(size.width, size.height);
+    let count = lent::names(size.width, size.height);
     let mut i: u16 = 0;
     while i < count {
         name(size, i, next1, side1, next3, other3, parent, a, b, c, d);

@@ -1,6 +1,6 @@
 use crate::asked;
 use crate::asked::Size;
-use cases::table;
+use cases::lent;
 ghost use Prim.Native.Nat.{_≤_};
 ghost use Rattle.cases.specs.Room.{room};
 
@@ -21,12 +21,12 @@ fn lengths_of(lengths: &[u16]) -> Lengths
         ⌝ }
 {
     Lengths {
-        depths: table::length(lengths, 5),
-        holes: table::length(lengths, 6),
-        a: table::length(lengths, 7),
-        b: table::length(lengths, 8),
-        c: table::length(lengths, 9),
-        d: table::length(lengths, 10),
+        depths: lent::length(lengths, 5),
+        holes: lent::length(lengths, 6),
+        a: lent::length(lengths, 7),
+        b: lent::length(lengths, 8),
+        c: lent::length(lengths, 9),
+        d: lent::length(lengths, 10),
     }
 }
 
@@ -136,12 +136,12 @@ fn ask_lengths(
     let kb = lengths.b;
     let kc = lengths.c;
     let kd = lengths.d;
-    let mut depths = [table::UNTOUCHED; table::ROOM];
-    let mut holes = [table::UNTOUCHED; table::ROOM];
-    let mut a = [table::UNTOUCHED; table::ROOM];
-    let mut b = [table::UNTOUCHED; table::ROOM];
-    let mut c = [table::UNTOUCHED; table::ROOM];
-    let mut d = [table::UNTOUCHED; table::ROOM];
+    let mut depths = [lent::UNTOUCHED; lent::ROOM];
+    let mut holes = [lent::UNTOUCHED; lent::ROOM];
+    let mut a = [lent::UNTOUCHED; lent::ROOM];
+    let mut b = [lent::UNTOUCHED; lent::ROOM];
+    let mut c = [lent::UNTOUCHED; lent::ROOM];
+    let mut d = [lent::UNTOUCHED; lent::ROOM];
     ask(
         size,
         name,
@@ -161,11 +161,11 @@ fn ask_lengths(
 
 // Asks of the five tables that stand one after another in a list, after the lengths.
 pub(crate) fn run(size: Size, name: u16, lengths: &[u16]) {
-    let s = table::length(lengths, 0);
-    let y = s + table::length(lengths, 1);
-    let o = y + table::length(lengths, 2);
-    let p = o + table::length(lengths, 3);
-    let end = p + table::length(lengths, 4);
+    let s = lent::length(lengths, 0);
+    let y = s + lent::length(lengths, 1);
+    let o = y + lent::length(lengths, 2);
+    let p = o + lent::length(lengths, 3);
+    let end = p + lent::length(lengths, 4);
     split(size, name, lengths, s, y, o, p, end);
 }
 
@@ -180,15 +180,15 @@ fn split(
     p: usize,
     end: usize,
 ) {
-    let list = table::from(lengths, 11);
+    let list = lent::from(lengths, 11);
     ask_lengths(
         size,
         name,
-        table::part(list, 0, s),
-        table::part(list, s, y),
-        table::part(list, y, o),
-        table::part(list, o, p),
-        table::part(list, p, end),
+        lent::part(list, 0, s),
+        lent::part(list, s, y),
+        lent::part(list, y, o),
+        lent::part(list, o, p),
+        lent::part(list, p, end),
         lengths_of(lengths),
     );
 }

@@ -3,18 +3,18 @@ use crate::asked::Size;
 use crate::given;
 use cases::lengths;
 use cases::lengths::Lengths;
+use cases::lent;
 use cases::made;
 use cases::show;
-use cases::table;
 use table::entry;
 ghost use Rattle.cases.specs.Room.{Fits};
 
 // Whether the five tables are as they were.
 fn untouched(next1: &[u16], side1: &[u16], next3: &[u16], other3: &[u16], parent: &[u16]) -> bool {
-    if !table::four_are(next1, side1, next3, other3, table::UNTOUCHED) {
+    if !lent::four_are(next1, side1, next3, other3, lent::UNTOUCHED) {
         return false;
     }
-    table::all_are(parent, table::UNTOUCHED)
+    lent::all_are(parent, lent::UNTOUCHED)
 }
 
 // The five tables of a sheet that was drawn, in full or their sums; of a refusal, whether they are as they were.
@@ -50,7 +50,7 @@ fn ask(
 ) {
     let mut depths = made::room();
     let mut holes = made::room();
-    let n = table::most(parent.len(), &depths);
+    let n = lent::most(parent.len(), &depths);
     asked::counts(
         size,
         full,
@@ -156,15 +156,15 @@ fn draw_lengths(size: Size, sheet: &[u16], full: bool, lengths: Lengths)
     let kb = lengths.b;
     let kc = lengths.c;
     let kd = lengths.d;
-    let mut next1 = [table::UNTOUCHED; table::ROOM];
-    let mut side1 = [table::UNTOUCHED; table::ROOM];
-    let mut next3 = [table::UNTOUCHED; table::ROOM];
-    let mut other3 = [table::UNTOUCHED; table::ROOM];
-    let mut parent = [table::UNTOUCHED; table::ROOM];
-    let mut a = [table::UNTOUCHED; table::ROOM];
-    let mut b = [table::UNTOUCHED; table::ROOM];
-    let mut c = [table::UNTOUCHED; table::ROOM];
-    let mut d = [table::UNTOUCHED; table::ROOM];
+    let mut next1 = [lent::UNTOUCHED; lent::ROOM];
+    let mut side1 = [lent::UNTOUCHED; lent::ROOM];
+    let mut next3 = [lent::UNTOUCHED; lent::ROOM];
+    let mut other3 = [lent::UNTOUCHED; lent::ROOM];
+    let mut parent = [lent::UNTOUCHED; lent::ROOM];
+    let mut a = [lent::UNTOUCHED; lent::ROOM];
+    let mut b = [lent::UNTOUCHED; lent::ROOM];
+    let mut c = [lent::UNTOUCHED; lent::ROOM];
+    let mut d = [lent::UNTOUCHED; lent::ROOM];
     draw(
         size,
         sheet,
@@ -199,17 +199,17 @@ pub(crate) fn run(kind: u8, values: &[u16]) {
         width: entry::get(values, 0),
         height: entry::get(values, 1),
     };
-    let rest = table::from(values, 2);
+    let rest = lent::from(values, 2);
     if kind == b'T' {
         draw_stated(size, rest, true);
         return;
     }
     if kind == b'L' {
-        draw_lengths(size, table::from(rest, 9), true, lengths::given(rest));
+        draw_lengths(size, lent::from(rest, 9), true, lengths::given(rest));
         return;
     }
     if kind == b'J' {
-        given::run(size, entry::get(rest, 0), table::from(rest, 1));
+        given::run(size, entry::get(rest, 0), lent::from(rest, 1));
         return;
     }
     draw_made(size, kind, rest);

@@ -1,5 +1,5 @@
+use cases::lent;
 use cases::show;
-use cases::table;
 use join::regions;
 use table::entry;
 ghost use Prim.Native.Nat.{_≤_};
@@ -21,11 +21,11 @@ pub struct Sums {
 
 fn sums_of(next1: &[u16], side1: &[u16], next3: &[u16], other3: &[u16], parent: &[u16]) -> Sums {
     Sums {
-        next1: table::sum(next1),
-        side1: table::sum(side1),
-        next3: table::sum(next3),
-        other3: table::sum(other3),
-        parent: table::sum(parent),
+        next1: lent::sum(next1),
+        side1: lent::sum(side1),
+        next3: lent::sum(next3),
+        other3: lent::sum(other3),
+        parent: lent::sum(parent),
     }
 }
 
@@ -112,7 +112,7 @@ fn join(
     c: &mut [u16],
     d: &mut [u16],
 ) {
-    table::soil(a, b, c, d);
+    lent::soil(a, b, c, d);
     join_once(
         size,
         first,

@@ -1,8 +1,8 @@
 use crate::one::Size;
 use cases::lengths;
 use cases::lengths::Lengths;
+use cases::lent;
 use cases::show;
-use cases::table;
 use join::regions;
 use plane::dart;
 use plane::dart::Dart;
@@ -198,11 +198,11 @@ fn compare(
     let y = lengths.next3;
     let o = lengths.other3;
     let p = lengths.parent;
-    let mut next1_fresh = [table::UNTOUCHED; table::ROOM];
-    let mut side1_fresh = [table::UNTOUCHED; table::ROOM];
-    let mut next3_fresh = [table::UNTOUCHED; table::ROOM];
-    let mut other3_fresh = [table::UNTOUCHED; table::ROOM];
-    let mut parent_fresh = [table::UNTOUCHED; table::ROOM];
+    let mut next1_fresh = [lent::UNTOUCHED; lent::ROOM];
+    let mut side1_fresh = [lent::UNTOUCHED; lent::ROOM];
+    let mut next3_fresh = [lent::UNTOUCHED; lent::ROOM];
+    let mut other3_fresh = [lent::UNTOUCHED; lent::ROOM];
+    let mut parent_fresh = [lent::UNTOUCHED; lent::ROOM];
     compare_fresh(
         size,
         names,
@@ -412,7 +412,7 @@ pub(crate) fn sit(
     c: &mut [u16],
     d: &mut [u16],
 ) {
-    let slots = table::slots(size.width, size.height);
+    let slots = lent::slots(size.width, size.height);
     let mut number: u16 = 0;
     let mut done: u64 = 0;
     let mut i: u16 = 0;

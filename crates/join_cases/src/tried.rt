@@ -4,9 +4,9 @@ use crate::sitting;
 use crate::sitting::Pace;
 use cases::lengths;
 use cases::lengths::Lengths;
+use cases::lent;
 use cases::made;
 use cases::show;
-use cases::table;
 use table::entry;
 ghost use Rattle.cases.specs.Room.{Fits};
 
@@ -20,15 +20,15 @@ fn fill(
     other3: &mut [u16],
     parent: &mut [u16],
 ) {
-    let s = table::length(lengths, 0);
-    let y = s + table::length(lengths, 1);
-    let o = y + table::length(lengths, 2);
-    let p = o + table::length(lengths, 3);
-    table::copy(list, next1);
-    table::copy(table::from(list, s), side1);
-    table::copy(table::from(list, y), next3);
-    table::copy(table::from(list, o), other3);
-    table::copy(table::from(list, p), parent);
+    let s = lent::length(lengths, 0);
+    let y = s + lent::length(lengths, 1);
+    let o = y + lent::length(lengths, 2);
+    let p = o + lent::length(lengths, 3);
+    lent::copy(list, next1);
+    lent::copy(lent::from(list, s), side1);
+    lent::copy(lent::from(list, y), next3);
+    lent::copy(lent::from(list, o), other3);
+    lent::copy(lent::from(list, p), parent);
 }
 
 // Joins two names in five tables that a case gives.
@@ -45,10 +45,10 @@ fn join_given(
     c: &mut [u16],
     d: &mut [u16],
 ) {
-    let lengths = table::from(values, 2);
+    let lengths = lent::from(values, 2);
     fill(
         lengths,
-        table::from(lengths, 9),
+        lent::from(lengths, 9),
         next1,
         side1,
         next3,
@@ -57,7 +57,7 @@ fn join_given(
     );
     one::join_all(
         size,
-        table::part(values, 0, 2),
+        lent::part(values, 0, 2),
         next1,
         side1,
         next3,
@@ -158,7 +158,7 @@ fn go_on(
         );
         return;
     }
-    let names = table::from(values, sheet.len());
+    let names = lent::from(values, sheet.len());
     join_names(
         kind,
         size,
@@ -238,15 +238,15 @@ fn go_lengths(kind: u8, size: Size, sheet: &mut [u16], values: &[u16], lengths: 
     let kb = lengths.b;
     let kc = lengths.c;
     let kd = lengths.d;
-    let mut next1 = [table::UNTOUCHED; table::ROOM];
-    let mut side1 = [table::UNTOUCHED; table::ROOM];
-    let mut next3 = [table::UNTOUCHED; table::ROOM];
-    let mut other3 = [table::UNTOUCHED; table::ROOM];
-    let mut parent = [table::UNTOUCHED; table::ROOM];
-    let mut a = [table::UNTOUCHED; table::ROOM];
-    let mut b = [table::UNTOUCHED; table::ROOM];
-    let mut c = [table::UNTOUCHED; table::ROOM];
-    let mut d = [table::UNTOUCHED; table::ROOM];
+    let mut next1 = [lent::UNTOUCHED; lent::ROOM];
+    let mut side1 = [lent::UNTOUCHED; lent::ROOM];
+    let mut next3 = [lent::UNTOUCHED; lent::ROOM];
+    let mut other3 = [lent::UNTOUCHED; lent::ROOM];
+    let mut parent = [lent::UNTOUCHED; lent::ROOM];
+    let mut a = [lent::UNTOUCHED; lent::ROOM];
+    let mut b = [lent::UNTOUCHED; lent::ROOM];
+    let mut c = [lent::UNTOUCHED; lent::ROOM];
+    let mut d = [lent::UNTOUCHED; lent::ROOM];
     go(
         kind,
         size,
@@ -269,7 +269,7 @@ fn lengths_of(kind: u8, size: Size, values: &[u16]) -> Lengths
     ensures { λ r. ⌜ Fits r ⌝ }
 {
     if kind == b'J' {
-        return lengths::given(table::from(values, 2));
+        return lengths::given(lent::from(values, 2));
     }
     lengths::stated(size.width, size.height)
 }
@@ -280,7 +280,7 @@ pub(crate) fn run(kind: u8, values: &[u16]) {
         width: entry::get(values, 0),
         height: entry::get(values, 1),
     };
-    let rest = table::from(values, 2);
+    let rest = lent::from(values, 2);
     let mut sheet = made::room();
     let n = made::sheet(kind, size.width, size.height, rest, &mut sheet);
     show::text(b"join");

@@ -15,10 +15,10 @@ use Rattle.laws.proofs.Table.{getD-table, getD-table-past, table-agree, some-ag
 use Rattle.laws.proofs.Walk.{run-along}
 use Rattle.plane.specs.Dart.{mark, points, slots, dart, point, direction, far, turned, reversal, line}
 use Rattle.plane.specs.Point.{bits, half, has, right, degree, inline, present}
-use Rattle.plane.specs.Turn.{turnOf, without, impossible, kind, becomes, becomesOf}
+use Rattle.rules.specs.Turn.{turnOf, without, impossible, kind, becomes, becomesOf}
 use Rattle.plane.proofs.Darts.{dart-own, direction-below, line-reversal}
 use Rattle.plane.proofs.Reach.{line-far}
-use Rattle.plane.proofs.Turns.{each, each-at}
+use Rattle.rules.proofs.Turns.{each, each-at}
 use Rattle.paper.specs.Name.{names, cells}
 use Rattle.paper.specs.Level.{Level, side, border, mask, next, last, along, plain, big, bent, tops, anchor, kept2, kept3, among, level, marked}
 use Rattle.paper.specs.Joining.{at, on}

@@ -1,6 +1,6 @@
+use cases::lent;
 use cases::made;
 use cases::show;
-use cases::table;
 use table::entry;
 ghost use Prim.Native.Nat.{_≤_};
 ghost use Rattle.cases.specs.Room.{room};
@@ -31,25 +31,25 @@ fn lengths_of(lengths: &[u16]) -> Lengths
         ⌝ }
 {
     Lengths {
-        next: table::length(lengths, 0),
-        other: table::length(lengths, 1),
-        side: table::length(lengths, 2),
-        a: table::length(lengths, 3),
-        b: table::length(lengths, 4),
-        c: table::length(lengths, 5),
-        d: table::length(lengths, 6),
+        next: lent::length(lengths, 0),
+        other: lent::length(lengths, 1),
+        side: lent::length(lengths, 2),
+        a: lent::length(lengths, 3),
+        b: lent::length(lengths, 4),
+        c: lent::length(lengths, 5),
+        d: lent::length(lengths, 6),
     }
 }
 
 // Whether the result tables are as they were.
 fn untouched(next: &[u16], other: &[u16], side: &[u16]) -> bool {
-    if !table::all_are(next, table::UNTOUCHED) {
+    if !lent::all_are(next, lent::UNTOUCHED) {
         return false;
     }
-    if !table::all_are(other, table::UNTOUCHED) {
+    if !lent::all_are(other, lent::UNTOUCHED) {
         return false;
     }
-    table::all_are(side, table::UNTOUCHED)
+    lent::all_are(side, lent::UNTOUCHED)
 }
 
 // The result tables of a level that was drawn, in full or their sums; of a refusal, whether they are as they were.
@@ -109,13 +109,13 @@ fn draw_lengths(case: Case, sheet: &[u16], full: bool, lengths: Lengths)
     let kb = lengths.b;
     let kc = lengths.c;
     let kd = lengths.d;
-    let mut next = [table::UNTOUCHED; table::ROOM];
-    let mut other = [table::UNTOUCHED; table::ROOM];
-    let mut side = [table::UNTOUCHED; table::ROOM];
-    let mut a = [table::UNTOUCHED; table::ROOM];
-    let mut b = [table::UNTOUCHED; table::ROOM];
-    let mut c = [table::UNTOUCHED; table::ROOM];
-    let mut d = [table::UNTOUCHED; table::ROOM];
+    let mut next = [lent::UNTOUCHED; lent::ROOM];
+    let mut other = [lent::UNTOUCHED; lent::ROOM];
+    let mut side = [lent::UNTOUCHED; lent::ROOM];
+    let mut a = [lent::UNTOUCHED; lent::ROOM];
+    let mut b = [lent::UNTOUCHED; lent::ROOM];
+    let mut c = [lent::UNTOUCHED; lent::ROOM];
+    let mut d = [lent::UNTOUCHED; lent::ROOM];
     draw(
         case,
         sheet,
@@ -139,7 +139,7 @@ fn draw_case(case: Case, sheet: &[u16], lengths: &[u16], full: bool) {
 
 // Draws the sheet of a case into tables of slot length.
 fn draw_slots(case: Case, sheet: &[u16], full: bool) {
-    let slots = table::slots(case.width, case.height);
+    let slots = lent::slots(case.width, case.height);
     let lengths = [slots; 7];
     draw_case(case, sheet, &lengths, full);
 }
@@ -158,13 +158,13 @@ pub(crate) fn run(kind: u8, values: &[u16]) {
         height: entry::get(values, 1),
         level: entry::get(values, 2),
     };
-    let rest = table::from(values, 3);
+    let rest = lent::from(values, 3);
     if kind == b'T' {
         draw_slots(case, rest, true);
         return;
     }
     if kind == b'L' {
-        draw_case(case, table::from(rest, 7), rest, true);
+        draw_case(case, lent::from(rest, 7), rest, true);
         return;
     }
     draw_made(case, kind, rest);

@@ -13,7 +13,7 @@ use borrow.Author.Tests.{le-ltb}
 use Rattle.laws.proofs.Table.{getD-table}
 use Rattle.plane.specs.Dart.{mark, dart, direction, beside, far, turned, reversal}
 use Rattle.plane.specs.Point.{half, has, right}
-use Rattle.plane.specs.Turn.{turn, turnOf}
+use Rattle.rules.specs.Turn.{turn, turnOf}
 use Rattle.plane.proofs.Darts.{point-dart, direction-dart, turned-below, far-dart, reversal-dart}
 use Rattle.paper.specs.Joining.{at}
 use Rattle.lines.specs.Mask.{around}

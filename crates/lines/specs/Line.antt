@@ -13,7 +13,7 @@ use lib.ListN.{set}
 use Rattle.laws.specs.Table.{table}
 use Rattle.plane.specs.Dart.{mark, dart, point, direction, far, reversal}
 use Rattle.plane.specs.Point.{has, right}
-use Rattle.plane.specs.Turn.{turnOf}
+use Rattle.rules.specs.Turn.{turnOf}
 use Rattle.paper.specs.Level.{marked}
 use Rattle.paper.specs.Joining.{at}
 use Rattle.lines.specs.Mask.{around}

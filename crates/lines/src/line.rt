@@ -1,6 +1,6 @@
 use crate::mask;
 use plane::dart;
-use plane::turn;
+use rules::turn;
 use table::entry;
 ghost use mathlib.Core.Path.{_≡_};
 ghost use mathlib.Core.Bool.{true, cond};
@@ -9,7 +9,7 @@ ghost use lib.Dec.{eqb};
 ghost use lib.ListN.{length};
 ghost use Rattle.plane.specs.Size.{within};
 ghost use Rattle.plane.specs.Dart.{mark, points, slots, dart, beside, reversal};
-ghost use Rattle.plane.specs.Turn.{turnOf};
+ghost use Rattle.rules.specs.Turn.{turnOf};
 ghost use Rattle.paper.specs.Joining.{at};
 ghost use Rattle.lines.specs.Line.{onward, beheld, nexts, others, sides, fourAt, pointed, turning};
 

@@ -21,7 +21,7 @@ use Rattle.plane.specs.Dart.{mark, slots, dart, point, direction}
 use Rattle.plane.specs.Point.{bits, half, has, degree}
 use Rattle.plane.proofs.Darts.{point-dart, dart-own, direction-below}
 use Rattle.plane.proofs.Points.{bits-same}
-use Rattle.plane.proofs.Turns.{has-degree}
+use Rattle.rules.proofs.Turns.{has-degree}
 use Rattle.paper.specs.Level.{mask, big}
 use Rattle.paper.specs.Joining.{Links, at, on, low, high}
 use Rattle.paper.proofs.Removed.{on-links}

@@ -29,7 +29,7 @@ use Rattle.plane.specs.Point.{degree}
 use Rattle.plane.proofs.Darts.{four, point-dart, dart-own, direction-below, turned-below}
 use Rattle.plane.proofs.Darts.{point-reversal, reversal-dart, far-dart}
 use Rattle.plane.proofs.Reach.{line-point, line-far, line-west-in, line-north-in}
-use Rattle.plane.proofs.Turns.{some-has, has-some, degree-some}
+use Rattle.rules.proofs.Turns.{some-has, has-some, degree-some}
 use Rattle.paper.specs.Level.{border, side, mask, big, tops, anchor, kept3, among}
 use Rattle.paper.proofs.Next.{Lines, mask-below, has-mask}
 use Rattle.paper.proofs.Piece.{Inside, Line, west, north, Piece, piece-top, top-piece}

@@ -14,7 +14,7 @@ use Rattle.laws.specs.Run.{run}
 use Rattle.plane.specs.Size.{widest, within}
 use Rattle.plane.specs.Dart.{mark, points, slots, dart, point, direction, beside, far, turned, reversal, stays, line}
 use Rattle.plane.specs.Point.{bits, half, has, corner, right, left, parts, present, degree, inline}
-use Rattle.plane.specs.Turn.{turn}
+use Rattle.rules.specs.Turn.{turn}
 use Rattle.paper.specs.Name.{label, west, north, names, named, cells}
 use Rattle.paper.specs.Level.{side, border, mask, next, plain, last, along, big, bent, tops, anchor, kept2, kept3, among, level, marked}
 use Rattle.paper.specs.Enclosure.{first, parent, parents, above, depth, holes}

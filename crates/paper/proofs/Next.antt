@@ -10,11 +10,11 @@ use Rattle.laws.proofs.Walk.{run-more, run-along}
 use Rattle.laws.proofs.Chart.{Turns}
 use Rattle.plane.specs.Dart.{slots, dart, point, direction, far, turned, reversal, line}
 use Rattle.plane.specs.Point.{has, degree}
-use Rattle.plane.specs.Turn.{turn}
+use Rattle.rules.specs.Turn.{turn}
 use Rattle.plane.proofs.Darts.{point-dart, direction-dart, dart-own, direction-below, turned-below, point-reversal}
 use Rattle.plane.proofs.Darts.{direction-reversal, reversal-twice, line-below}
 use Rattle.plane.proofs.Points.{bits-below, has-bits}
-use Rattle.plane.proofs.Turns.{around, turn-below, turn-has, turn-once, turn-pair, turn-skip, has-some, without-none}
+use Rattle.rules.proofs.Turns.{around, turn-below, turn-has, turn-once, turn-pair, turn-skip, has-some, without-none}
 use Rattle.paper.specs.Level.{mask, next, big}
 
 module _ (on : ℕ → Bool) (p : ℕ) where

@@ -19,9 +19,9 @@ use Rattle.laws.proofs.Least.{lower-other}
 use Rattle.laws.proofs.Chart.{taken, less}
 use Rattle.plane.specs.Dart.{mark, slots, dart, reversal}
 use Rattle.plane.specs.Point.{has, degree, inline}
-use Rattle.plane.specs.Turn.{without, impossible, kind, becomes}
+use Rattle.rules.specs.Turn.{without, impossible, kind, becomes}
 use Rattle.plane.proofs.Points.{bits-same}
-use Rattle.plane.proofs.Turns.{without-none}
+use Rattle.rules.proofs.Turns.{without-none}
 use Rattle.paper.specs.Name.{names}
 use Rattle.paper.specs.Level.{border, mask}
 use Rattle.paper.specs.Drawing.{Tables, drawn, drawing}

@@ -13,7 +13,7 @@ use Rattle.laws.proofs.Meet.{Two}
 use Rattle.plane.specs.Dart.{dart, point, direction}
 use Rattle.plane.specs.Point.{half, has, degree}
 use Rattle.plane.proofs.Darts.{point-dart, direction-dart, dart-own, direction-below}
-use Rattle.plane.proofs.Turns.{each, each-at}
+use Rattle.rules.proofs.Turns.{each, each-at}
 use Rattle.paper.specs.Level.{mask}
 use Rattle.paper.specs.Joining.{low, high}
 use Rattle.paper.proofs.Next.{mask-below, has-mask}

@@ -13,13 +13,13 @@ use Rattle.laws.proofs.Chart.{Map, Chart, Few, Colours}
 use Rattle.plane.specs.Dart.{slots, dart, point, direction, far, turned, reversal, stays, line}
 use Rattle.plane.specs.Point.{corner, right, left, parts, present, degree}
 use Rattle.paper.specs.Name.{named, cells}
-use Rattle.plane.specs.Turn.{turn}
+use Rattle.rules.specs.Turn.{turn}
 use Rattle.plane.proofs.Darts.{four, place, point-dart, direction-dart, dart-own, direction-below, every-dart}
 use Rattle.plane.proofs.Darts.{every-line, line-dart, turned-below, turned-back, point-reversal, direction-reversal}
 use Rattle.plane.proofs.Darts.{reversal-east, reversal-south, reversal-west, reversal-north, line-reversal}
 use Rattle.plane.proofs.Darts.{reversal-twice, line-below}
 use Rattle.plane.proofs.Points.{bits-same, left-right, present-alone}
-use Rattle.plane.proofs.Turns.{turn-keeps}
+use Rattle.rules.proofs.Turns.{turn-keeps}
 use Rattle.paper.proofs.Cells.{block, named-west, named-north, named-east, named-south, cells-place}
 use Rattle.paper.specs.Level.{side, border, mask, next, big}
 use Rattle.paper.proofs.Next.{Lines, lines-turns, lines-few, point-next, direction-next}

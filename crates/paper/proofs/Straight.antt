@@ -20,7 +20,7 @@ use Rattle.laws.proofs.Rise.{never-rises}
 use Rattle.plane.specs.Dart.{point, direction, far, turned}
 use Rattle.plane.specs.Point.{degree, inline}
 use Rattle.plane.proofs.Darts.{direction-below, turned-below}
-use Rattle.plane.proofs.Turns.{turn-straight, has-degree}
+use Rattle.rules.proofs.Turns.{turn-straight, has-degree}
 use Rattle.plane.proofs.Reach.{line-far, far-after, far-before}
 use Rattle.paper.specs.Level.{border, mask, next, big, bent, kept2, among}
 use Rattle.paper.proofs.Next.{mask-below, way-in, point-next, direction-next}

@@ -22,7 +22,7 @@ use Rattle.laws.proofs.Link.{last-same, other-on, other-other}
 use Rattle.laws.proofs.Loop.{not-above, loops-passes, big-there, big-last}
 use Rattle.plane.specs.Dart.{mark, slots, points, dart, point, direction, far, reversal}
 use Rattle.plane.specs.Point.{degree}
-use Rattle.plane.specs.Turn.{turn}
+use Rattle.rules.specs.Turn.{turn}
 use Rattle.plane.proofs.Darts.{point-dart, point-reversal}
 use Rattle.paper.specs.Name.{names}
 use Rattle.paper.specs.Level.{border, mask, next, big}

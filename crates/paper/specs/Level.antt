@@ -17,7 +17,7 @@ use Rattle.laws.specs.Least.{least}
 use Rattle.laws.specs.Run.{run}
 use Rattle.plane.specs.Dart.{mark, points, slots, dart, point, direction, far, reversal, line}
 use Rattle.plane.specs.Point.{bits, right, parts, degree, inline}
-use Rattle.plane.specs.Turn.{turn}
+use Rattle.rules.specs.Turn.{turn}
 use Rattle.paper.specs.Name.{cells}
 
 unfoldable pub side : ℕ → ℕ → List ℕ → ℕ → ℕ

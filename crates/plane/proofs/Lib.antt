@@ -1,11 +1,9 @@
-mod Arm
+pub mod Arm
 mod Back
 pub mod Count
 pub mod Darts
-mod Entry
 pub mod Fit
 pub mod Limit
 pub mod Mask
 pub mod Points
 pub mod Reach
-pub mod Turns

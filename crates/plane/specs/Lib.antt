@@ -1,4 +1,3 @@
 pub mod Size
 pub mod Dart
 pub mod Point
-pub mod Turn

@@ -1,17 +1,20 @@
 use plane::dart;
+use rules::turn;
 use table::entry;
 ghost use mathlib.Core.Path.{_≡_};
 ghost use Prim.Native.Nat.{_*_, _≤_, _<_};
+ghost use lib.Dec.{eqb};
 ghost use Rattle.laws.specs.Table.{number};
 ghost use Rattle.plane.specs.Dart.{mark, dart};
 ghost use Rattle.plane.specs.Point.{degree};
+ghost use Rattle.rules.specs.Turn.{kinding};
 ghost use Rattle.paper.specs.Level.{mask};
 ghost use Rattle.paper.specs.Joining.{on, low, high};
 ghost use Rattle.removal.specs.Seen.{SeenAt};
 
-// How many darts of a level leave a point, and the first and the last of them.
+// Whether exactly two darts of a level leave a point, and the first and the last that do.
 pub struct Ends {
-    pub count: u16,
+    pub two: bool,
     pub first: u16,
     pub last: u16,
 }
@@ -39,11 +42,16 @@ pub fn mask(table: &[u16], point: u16) -> u16
     east + south + west + north
 }
 
-// How many lines a mask has.
-pub fn degree(lines: u16) -> u16
-    ensures { λ r. ⌜ r ≡ degree lines ⌝ }
+// Whether a mask has exactly two lines: the point table, with no line taken, says that they are in line or a corner.
+fn is_two(kinds: &[u16; 16], lines: u16) -> bool
+    requires { ⌜ (now kinds ≡ kinding) × (lines < 16) ⌝ }
+    ensures { λ r. ⌜ r ≡ eqb (degree lines) 2 ⌝ }
 {
-    lines % 2 + lines / 2 % 2 + lines / 2 / 2 % 2 + lines / 2 / 2 / 2 % 2
+    let kind = kinds[lines as usize];
+    if kind == turn::IN_LINE {
+        return true;
+    }
+    kind == turn::CORNER
 }
 
 // The first direction of a mask; 3 where it has none.
@@ -78,14 +86,14 @@ fn high(lines: u16) -> u16
     0
 }
 
-// The darts that leave a point and for which a table has entries.
-pub fn seen(table: &[u16], point: u16) -> Ends
-    requires { ⌜ dart point 3 < mark ⌝ }
-    ensures { λ r. ⌜ SeenAt (mask (on (now (table .entry))) point) point (r .count) (r .first) (r .last) ⌝ }
+// The darts that leave a point and for which a table has entries. Kinds is what the point table says of each mask.
+pub fn seen(kinds: &[u16; 16], table: &[u16], point: u16) -> Ends
+    requires { ⌜ (now kinds ≡ kinding) × (dart point 3 < mark) ⌝ }
+    ensures { λ r. ⌜ SeenAt (mask (on (now (table .entry))) point) point (r .two) (r .first) (r .last) ⌝ }
 {
     let lines = mask(table, point);
     Ends {
-        count: degree(lines),
+        two: is_two(kinds, lines),
         first: 4 * point + low(lines),
         last: 4 * point + high(lines),
     }

@@ -1,6 +1,7 @@
 use crate::ends;
 use crate::remove;
 use plane::dart;
+use rules::turn;
 use table::entry;
 ghost use mathlib.Core.Path.{_≡_};
 ghost use mathlib.Core.Bool.{true};
@@ -12,18 +13,19 @@ ghost use Rattle.laws.specs.Table.{some, number};
 ghost use Rattle.plane.specs.Size.{within};
 ghost use Rattle.plane.specs.Dart.{mark, slots, dart};
 ghost use Rattle.plane.specs.Point.{degree};
+ghost use Rattle.rules.specs.Turn.{kinding};
 ghost use Rattle.paper.specs.Level.{mask};
 ghost use Rattle.paper.specs.Joining.{on, hanging, prune, pruned};
 ghost use Rattle.removal.specs.Links.{links};
 ghost use Rattle.removal.specs.Taken.{flags, loose};
 
-// Whether one dart alone leaves a point.
-fn lone(next: &[u16], point: u16) -> bool
-    requires { ⌜ dart point 3 < mark ⌝ }
+// Whether one dart alone leaves a point: the point table, with no line taken, says that this cannot be.
+fn lone(kinds: &[u16; 16], next: &[u16], point: u16) -> bool
+    requires { ⌜ (now kinds ≡ kinding) × (dart point 3 < mark) ⌝ }
     ensures { λ r. ⌜ r ≡ eqb (degree (mask (on (now (next .entry))) point)) 1 ⌝ }
 {
     let lines = ends::mask(next, point);
-    ends::degree(lines) == 1
+    kinds[lines as usize] == turn::IMPOSSIBLE
 }
 
 // Whether some dart hangs: some point is left by one dart alone.
@@ -33,10 +35,11 @@ fn hangs(width: u16, height: u16, next: &[u16]) -> bool
         ((other : List ℕ) → r ≡ some (slots width height) (hanging (links (now (next .entry)) other)))
         ⌝ }
 {
+    let kinds = turn::kinds();
     let n = (width + 1) * (height + 1);
     let mut p: u16 = 0;
     while p < n {
-        if lone(next, p) {
+        if lone(&kinds, next, p) {
             return true;
         }
         p += 1;
@@ -45,27 +48,27 @@ fn hangs(width: u16, height: u16, next: &[u16]) -> bool
 }
 
 // Whether a dart hangs.
-fn is_hanging(next: &[u16], dart: u16) -> bool
-    requires { ⌜ length (now next) + 3 < mark ⌝ }
+fn is_hanging(kinds: &[u16; 16], next: &[u16], dart: u16) -> bool
+    requires { ⌜ (now kinds ≡ kinding) × (length (now next) + 3 < mark) ⌝ }
     ensures { λ r. ⌜ ((other : List ℕ) → r ≡ hanging (links (now (next .entry)) other) dart) ⌝ }
 {
     if entry::get(next, dart) == dart::MARK {
         return false;
     }
-    lone(next, dart / 4)
+    lone(kinds, next, dart / 4)
 }
 
 // 1 for a dart that hangs or whose other hangs, else 0.
-fn is_loose(next: &[u16], other: &[u16], dart: u16) -> u16
-    requires { ⌜ length (now next) + 3 < mark ⌝ }
+fn is_loose(kinds: &[u16; 16], next: &[u16], other: &[u16], dart: u16) -> u16
+    requires { ⌜ (now kinds ≡ kinding) × (length (now next) + 3 < mark) ⌝ }
     ensures { λ r. ⌜
         r ≡ number (loose (links (now (next .entry)) (now (other .entry))) dart)
         ⌝ }
 {
-    if is_hanging(next, dart) {
+    if is_hanging(kinds, next, dart) {
         return 1;
     }
-    if is_hanging(next, entry::get(other, dart)) {
+    if is_hanging(kinds, next, entry::get(other, dart)) {
         return 1;
     }
     0
@@ -79,10 +82,11 @@ fn take_hanging(next: &[u16], other: &[u16], taken: &mut [u16])
         flags (length (now (taken .entry))) (loose (links (now (next .entry)) (now (other .entry))))
         ⌝ }
 {
+    let kinds = turn::kinds();
     let n = taken.len();
     let mut i = 0;
     while i < n {
-        taken[i] = is_loose(next, other, i as u16);
+        taken[i] = is_loose(&kinds, next, other, i as u16);
         i += 1;
     }
 }

@@ -11,21 +11,24 @@ use Rattle.closing.proofs.close.close.Statement.{statement}
 use Rattle.closing.proofs.close.close.Tie as tie
 
 abbrev Inv-loop : tie.InvT-loop
-Inv-loop width height lines tops next₀ other₀ n p₀ next other p =
+Inv-loop width height lines tops next₀ other₀ kinds n p₀ next other p =
     Going (closes (on lines) tops) n p (links next₀ other₀) (links next other)
 
 abbrev μ-loop : tie.MeasureT-loop
-μ-loop width height lines tops next₀ other₀ n p₀ next other p = n - p
+μ-loop width height lines tops next₀ other₀ kinds n p₀ next other p = n - p
+
+kinds-requires : tie.Need-kinds-requires Inv-loop μ-loop
+kinds-requires c κs = tt
 
 add-n : tie.Need-add-n Inv-loop μ-loop
-add-n c = omega (arith, within-limits _ _ (c .before .before .before .before .pre .0))
+add-n c = omega (arith, within-limits _ _ (c .before .before .before .before .before .pre .0))
 
 add-n-2 : tie.Need-add-n-2 Inv-loop μ-loop
-add-n-2 c = omega (arith, within-limits _ _ (c .before .before .before .before .pre .0))
+add-n-2 c = omega (arith, within-limits _ _ (c .before .before .before .before .before .pre .0))
 
 mul-n : tie.Need-mul-n Inv-loop μ-loop
 unfolding points
-mul-n c = omega (arith, points-fit _ _ (c .before .before .before .before .pre .0))
+mul-n c = omega (arith, points-fit _ _ (c .before .before .before .before .before .pre .0))
 
 loop-holds : tie.Need-loop-holds Inv-loop μ-loop
 loop-holds c = going-start _ _ _
@@ -33,28 +36,30 @@ loop-holds c = going-start _ _ _
 close-point-requires : tie.Need-close-point-requires Inv-loop μ-loop
 unfolding points
 close-point-requires c κs =
-    let q = c .before .before .before .before .before .before .before .before .pre in
-    let b = c .before .before .loop-test .taken in
-    (darts-fit _ _ (q .0) _ b .0, omega (arith, q .1), q .2)
+    let c3 = c .before .before .before in
+    let c5 = c3 .before .before in
+    let q = c5 .before .before .before .before .before .pre in
+    let b = c3 .loop-test .taken in
+    (c5 .kinds .ensures, darts-fit _ _ (q .0) _ b .0, omega (arith, q .1), q .2)
 
 add-p : tie.Need-add-p Inv-loop μ-loop
 unfolding points
 add-p c =
-    let c7 = c .before .before .before .before .before .before .before in
-    let c13 = c7 .before .before .before .before .before .before in
-    omega (arith, points-fit _ _ (c13 .pre .0), c7 .loop-test .taken)
+    let c8 = c .before .before .before .before .before .before .before .before in
+    let c15 = c8 .before .before .before .before .before .before .before in
+    omega (arith, points-fit _ _ (c15 .pre .0), c8 .loop-test .taken)
 
 loop-less : tie.Need-loop-less Inv-loop μ-loop
-loop-less c = omega (arith, c .before .before .before .before .before .before .before .loop-test .taken)
+loop-less c = omega (arith, c .before .before .before .before .before .before .before .before .loop-test .taken)
 
 loop-again : tie.Need-loop-again Inv-loop μ-loop
 loop-again c =
     let c4 = c .before .before .before .before in
-    let c7 = c4 .before .before .before in
-    let c8 = c7 .before in
+    let c8 = c4 .before .before .before .before in
+    let c9 = c8 .before in
     let g = c4 .close-point in
-    going-on (closes (on _) _) (close (on _) _) (closes-none _ _) (closes-more _ _) _ _ _ _ (c8 .loop .inv)
-    (c7 .loop-test .taken) _ (g .ensures) (g .kept .1 .1 .0) (g .kept .1 .1 .1 .0)
+    going-on (closes (on _) _) (close (on _) _) (closes-none _ _) (closes-more _ _) _ _ _ _ (c9 .loop .inv)
+    (c8 .loop-test .taken) _ (g .ensures) (g .kept .1 .1 .1 .0) (g .kept .1 .1 .1 .1 .0)
 
 same-length : tie.Need-same-length Inv-loop μ-loop
 same-length c = c .before .loop .inv .nexts
@@ -74,6 +79,7 @@ close-spec =
     (tie.spec
     Inv-loop
     μ-loop
+    kinds-requires
     add-n
     add-n-2
     mul-n

@@ -1,17 +1,20 @@
 use mathlib.Core.Path.{_∙_, refl}
+use borrow.Author.Tests.{not-true, not-false}
 use borrow.Author.Needs.{needs}
 use Rattle.closing.proofs.Closing.{top-fit, close-other, close-edges, close-big, close-loop}
 use Rattle.closing.proofs.close.close_point.Statement.{statement}
 use Rattle.closing.proofs.close.close_point.Tie as tie
 
 seen-requires : tie.Need-seen-requires
-seen-requires c κs = c .before .before .before .before .before .pre .0
+seen-requires c κs =
+    let q = c .before .before .before .before .before .pre in
+    (q .0, q .1)
 
 same-length : tie.Need-same-length
 same-length c = refl
 
 returns : tie.Need-returns
-returns c = close-other _ _ _ _ _ _ _ (c .before .before .seen .ensures) (c .if1 .taken)
+returns c = close-other _ _ _ _ _ _ _ (c .before .before .seen .ensures) (not-true _ (c .if1 .taken))
 
 get-requires : tie.Need-get-requires
 get-requires c κs = tt
@@ -26,12 +29,13 @@ returns-2 : tie.Need-returns-2
 returns-2 c =
     let c3 = c .before .before .before in
     let c5 = c3 .before .before in
-    close-edges _ _ _ _ _ _ _ (c5 .seen .ensures) (c3 .if1 .left) _ (c .before .get .ensures) (c .if2 .taken)
+    close-edges _ _ _ _ _ _ _ (c5 .seen .ensures) (not-false _ (c3 .if1 .left)) _ (c .before .get .ensures)
+    (c .if2 .taken)
 
 seen-requires-2 : tie.Need-seen-requires-2
 seen-requires-2 c κs =
     let c11 = c .before .before .before .before .before .before .before .before .before .before .before in
-    c11 .pre .0
+    (c11 .pre .0, c11 .pre .1)
 
 same-length-4 : tie.Need-same-length-4
 same-length-4 c = refl
@@ -46,8 +50,8 @@ returns-3 c =
     let c4 = c3 .before in
     let c6 = c4 .before .before in
     let c8 = c6 .before .before in
-    close-big _ _ _ _ _ _ _ (c8 .seen .ensures) (c6 .if1 .left) _ (c4 .get .ensures) (c3 .if2 .left) _ _ _
-    (c2 .seen2 .ensures) (c .if3 .taken)
+    close-big _ _ _ _ _ _ _ (c8 .seen .ensures) (not-false _ (c6 .if1 .left)) _ (c4 .get .ensures)
+    (c3 .if2 .left) _ _ _ (c2 .seen2 .ensures) (not-true _ (c .if3 .taken))
 
 mul-seen : tie.Need-mul-seen
 mul-seen c = search needs
@@ -59,7 +63,7 @@ seen-requires-3 : tie.Need-seen-requires-3
 seen-requires-3 c κs =
     let c15 = c .before .before .before .before .before .before .before .before .before .before .before .before
     .before .before .before in
-    top-fit _ _ (c15 .pre .2) (c15 .pre .0)
+    (c15 .pre .0, top-fit _ _ (c15 .pre .3) (c15 .pre .1))
 
 move-loop-requires : tie.Need-move-loop-requires
 move-loop-requires c κs = tt
@@ -81,8 +85,8 @@ returns-4 c =
     let c15 = c13 .before .before in
     let c17 = c15 .before .before in
     c4 .move-loop .ensures
-    ∙ close-loop _ _ _ _ _ _ _ (c17 .seen .ensures) (c15 .if1 .left) _ (c13 .get .ensures) (c12 .if2 .left) _ _ _
-    (c11 .seen2 .ensures) (c9 .if3 .left) _ _ _ (c7 .seen3 .ensures)
+    ∙ close-loop _ _ _ _ _ _ _ (c17 .seen .ensures) (not-false _ (c15 .if1 .left)) _ (c13 .get .ensures)
+    (c12 .if2 .left) _ _ _ (c11 .seen2 .ensures) (not-false _ (c9 .if3 .left)) _ _ _ (c7 .seen3 .ensures)
 
 pub close-point-spec : {M : Type 1} → statement M
 close-point-spec =

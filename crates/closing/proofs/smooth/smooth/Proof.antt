@@ -11,20 +11,24 @@ use Rattle.closing.proofs.smooth.smooth.Statement.{statement}
 use Rattle.closing.proofs.smooth.smooth.Tie as tie
 
 abbrev Inv-loop : tie.InvT-loop
-Inv-loop width height next₀ other₀ n p₀ next other p = Going smooths n p (links next₀ other₀) (links next other)
+Inv-loop width height next₀ other₀ kinds n p₀ next other p =
+    Going smooths n p (links next₀ other₀) (links next other)
 
 abbrev μ-loop : tie.MeasureT-loop
-μ-loop width height next₀ other₀ n p₀ next other p = n - p
+μ-loop width height next₀ other₀ kinds n p₀ next other p = n - p
+
+kinds-requires : tie.Need-kinds-requires Inv-loop μ-loop
+kinds-requires c κs = tt
 
 add-n : tie.Need-add-n Inv-loop μ-loop
-add-n c = omega (arith, within-limits _ _ (c .before .before .pre))
+add-n c = omega (arith, within-limits _ _ (c .before .before .before .pre))
 
 add-n-2 : tie.Need-add-n-2 Inv-loop μ-loop
-add-n-2 c = omega (arith, within-limits _ _ (c .before .before .pre))
+add-n-2 c = omega (arith, within-limits _ _ (c .before .before .before .pre))
 
 mul-n : tie.Need-mul-n Inv-loop μ-loop
 unfolding points
-mul-n c = omega (arith, points-fit _ _ (c .before .before .pre))
+mul-n c = omega (arith, points-fit _ _ (c .before .before .before .pre))
 
 loop-holds : tie.Need-loop-holds Inv-loop μ-loop
 loop-holds c = going-start _ _ _
@@ -32,27 +36,29 @@ loop-holds c = going-start _ _ _
 smooth-point-requires : tie.Need-smooth-point-requires Inv-loop μ-loop
 unfolding points
 smooth-point-requires c κs =
-    let c2 = c .before .before in
-    let c6 = c2 .before .before .before .before in
-    darts-fit _ _ (c6 .pre) _ (c2 .loop-test .taken) .0
+    let c3 = c .before .before .before in
+    let c5 = c3 .before .before in
+    let c8 = c5 .before .before .before in
+    (c5 .kinds .ensures, darts-fit _ _ (c8 .pre) _ (c3 .loop-test .taken) .0)
 
 add-p : tie.Need-add-p Inv-loop μ-loop
 unfolding points
 add-p c =
-    let c7 = c .before .before .before .before .before .before .before in
-    let c11 = c7 .before .before .before .before in
-    omega (arith, points-fit _ _ (c11 .pre), c7 .loop-test .taken)
+    let c8 = c .before .before .before .before .before .before .before .before in
+    let c13 = c8 .before .before .before .before .before in
+    omega (arith, points-fit _ _ (c13 .pre), c8 .loop-test .taken)
 
 loop-less : tie.Need-loop-less Inv-loop μ-loop
-loop-less c = omega (arith, c .before .before .before .before .before .before .before .loop-test .taken)
+loop-less c = omega (arith, c .before .before .before .before .before .before .before .before .loop-test .taken)
 
 loop-again : tie.Need-loop-again Inv-loop μ-loop
 loop-again c =
     let c4 = c .before .before .before .before in
-    let c7 = c4 .before .before .before in
-    let c8 = c7 .before in
-    going-on smooths smooth smooths-none smooths-more _ _ _ _ (c8 .loop .inv) (c7 .loop-test .taken) _
-    (c4 .smooth-point .ensures) (c4 .smooth-point .kept .0) (c4 .smooth-point .kept .1 .0)
+    let c8 = c4 .before .before .before .before in
+    let c9 = c8 .before in
+    let g = c4 .smooth-point in
+    going-on smooths smooth smooths-none smooths-more _ _ _ _ (c9 .loop .inv) (c8 .loop-test .taken) _
+    (g .ensures) (g .kept .1 .0) (g .kept .1 .1 .0)
 
 same-length : tie.Need-same-length Inv-loop μ-loop
 same-length c = c .before .loop .inv .nexts
@@ -70,6 +76,7 @@ smooth-spec =
     (tie.spec
     Inv-loop
     μ-loop
+    kinds-requires
     add-n
     add-n-2
     mul-n

@@ -1,4 +1,5 @@
 use mathlib.Core.Path.{_∙_, refl}
+use borrow.Author.Tests.{not-true, not-false}
 use Rattle.closing.proofs.Splicing.{smooth-other, smooth-two}
 use Rattle.closing.proofs.smooth.smooth_point.Statement.{statement}
 use Rattle.closing.proofs.smooth.smooth_point.Tie as tie
@@ -10,7 +11,7 @@ same-length : tie.Need-same-length
 same-length c = refl
 
 returns : tie.Need-returns
-returns c = smooth-other _ _ _ _ _ (c .before .before .seen .ensures) (c .if1 .taken)
+returns c = smooth-other _ _ _ _ _ (c .before .before .seen .ensures) (not-true _ (c .if1 .taken))
 
 smooth-edge-requires : tie.Need-smooth-edge-requires
 smooth-edge-requires c κs = tt
@@ -26,7 +27,7 @@ returns-2 c =
     let c4 = c .before .before .before .before in
     let c7 = c4 .before .before .before in
     let c9 = c7 .before .before in
-    c4 .smooth-edge .ensures ∙ smooth-two _ _ _ _ _ (c9 .seen .ensures) (c7 .if1 .left)
+    c4 .smooth-edge .ensures ∙ smooth-two _ _ _ _ _ (c9 .seen .ensures) (not-false _ (c7 .if1 .left))
 
 pub smooth-point-spec : {M : Type 1} → statement M
 smooth-point-spec =

@@ -1,5 +1,5 @@
 use Rattle.lines.specs.Line.{turning}
-use Rattle.plane.specs.Turn.{turnOf}
+use Rattle.rules.specs.Turn.{turnOf}
 use mathlib.Core.Path.{refl}
 use Prim.Native.Nat.{_-_, _/_, _%_}
 use Rattle.table.proofs.Filled.{Filled, filled-none, filled-more, filled-all}

@@ -8,36 +8,36 @@ use Rattle.removal.proofs.ends.seen.Tie as tie
 mask-requires : tie.Need-mask-requires
 mask-requires c κs = search needs
 
-degree-requires : tie.Need-degree-requires
-degree-requires c κs = tt
+is-two-requires : tie.Need-is-two-requires
+is-two-requires c κs = (c .before .before .pre .0, c .mask .ensures .1)
 
-mul-t5 : tie.Need-mul-t5
+mul-t6 : tie.Need-mul-t6
 unfolding mark dart
-mul-t5 c = omega arith
+mul-t6 c = omega arith
 
 low-requires : tie.Need-low-requires
 low-requires c κs = tt
 
-add-t7 : tie.Need-add-t7
+add-t8 : tie.Need-add-t8
 unfolding mark dart
-add-t7 c = omega arith
+add-t8 c = omega arith
 
-mul-t8 : tie.Need-mul-t8
+mul-t9 : tie.Need-mul-t9
 unfolding mark dart
-mul-t8 c = omega arith
+mul-t9 c = omega arith
 
 high-requires : tie.Need-high-requires
 high-requires c κs = tt
 
-add-t10 : tie.Need-add-t10
+add-t11 : tie.Need-add-t11
 unfolding mark dart
-add-t10 c = omega arith
+add-t11 c = omega arith
 
 returns : tie.Need-returns
 returns c =
     let c2 = c .before .before in
     let c3 = c2 .before in
-    seen-of _ _ _ _ _ _ (c3 .mask .ensures .0) (c2 .degree .ensures) (c .before .low .ensures .0)
+    seen-of _ _ _ _ _ _ (c3 .mask .ensures .0) (c2 .is-two .ensures) (c .before .low .ensures .0)
     (c .high .ensures .0)
 
 pub seen-spec : {M : Type 1} → statement M
@@ -45,11 +45,11 @@ seen-spec =
     tie.close
     (tie.spec
     mask-requires
-    degree-requires
-    mul-t5
+    is-two-requires
+    mul-t6
     low-requires
-    add-t7
-    mul-t8
+    add-t8
+    mul-t9
     high-requires
-    add-t10
+    add-t11
     returns)

@@ -14,7 +14,7 @@ lone-requires : tie.Need-lone-requires
 unfolding mark
 lone-requires c κs =
     let c3 = c .before .before .before in
-    on-inside _ (c3 .args .next .now) _ _ (c .before .get .ensures) (c .if1 .left) (c3 .pre)
+    (c3 .pre .0, on-inside _ (c3 .args .next .now) _ _ (c .before .get .ensures) (c .if1 .left) (c3 .pre .1))
 
 returns-2 : tie.Need-returns-2
 unfolding mark

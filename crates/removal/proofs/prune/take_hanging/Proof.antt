@@ -10,11 +10,14 @@ use Rattle.removal.proofs.prune.take_hanging.Statement.{statement}
 use Rattle.removal.proofs.prune.take_hanging.Tie as tie
 
 abbrev Inv-loop : tie.InvT-loop
-Inv-loop next other taken₀ n i₀ taken i =
+Inv-loop next other taken₀ kinds n i₀ taken i =
     Half (λ d. number (loose (links next other) d)) i taken₀ taken
 
 abbrev μ-loop : tie.MeasureT-loop
-μ-loop next other taken₀ n i₀ taken i = n - i
+μ-loop next other taken₀ kinds n i₀ taken i = n - i
+
+kinds-requires : tie.Need-kinds-requires Inv-loop μ-loop
+kinds-requires c κs = tt
 
 loop-holds : tie.Need-loop-holds Inv-loop μ-loop
 loop-holds c = half-none _ _
@@ -24,14 +27,16 @@ unfolding mark
 cast-is-loose c = omega arith
 
 is-loose-requires : tie.Need-is-loose-requires Inv-loop μ-loop
-is-loose-requires c κs = c .before .before .before .before .before .pre .0
+is-loose-requires c κs =
+    let c3 = c .before .before .before in
+    (c3 .kinds .ensures, c3 .before .before .before .before .pre .0)
 
 mul-taken : tie.Need-mul-taken Inv-loop μ-loop
 unfolding mark
 mul-taken c = omega arith
 
 slice-write-taken : tie.Need-slice-write-taken Inv-loop μ-loop
-slice-write-taken c = omega (arith, c .before .before .loop .inv .long)
+slice-write-taken c = omega (arith, c .before .before .before .loop .inv .long)
 
 add-i : tie.Need-add-i Inv-loop μ-loop
 add-i c = omega arith
@@ -40,7 +45,9 @@ loop-less : tie.Need-loop-less Inv-loop μ-loop
 loop-less c = omega arith
 
 loop-again : tie.Need-loop-again Inv-loop μ-loop
-loop-again c = half-more _ _ _ _ _ (c .before .before .loop .inv) (c .before .loop-test .taken) (c .is-loose .ensures)
+loop-again c =
+    half-more _ _ _ _ _ (c .before .before .before .loop .inv) (c .before .before .loop-test .taken)
+    (c .is-loose .ensures)
 
 same-length : tie.Need-same-length Inv-loop μ-loop
 same-length c = c .before .loop .inv .long
@@ -55,6 +62,7 @@ take-hanging-spec =
     (tie.spec
     Inv-loop
     μ-loop
+    kinds-requires
     loop-holds
     cast-is-loose
     is-loose-requires

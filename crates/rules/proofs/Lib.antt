@@ -1,0 +1,3 @@
+mod Entry
+pub mod Kind
+pub mod Turns

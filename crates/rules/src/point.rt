@@ -1,0 +1,72 @@
+ghost use mathlib.Core.Path.{_≡_};
+ghost use mathlib.Core.Bool.{not};
+ghost use Prim.Native.Nat.{_*_, _≤_};
+ghost use lib.Dec.{eqb};
+ghost use Rattle.laws.specs.Table.{number};
+ghost use Rattle.plane.specs.Point.{right, left, present, degree, inline};
+
+// A value where two cells differ, else 0.
+fn where_differ(a: u16, b: u16, value: u16) -> u16
+    ensures { λ r. ⌜ (r ≡ value * number (not (eqb a b))) × (r ≤ value) ⌝ }
+{
+    if a == b { 0 } else { value }
+}
+
+// The mask of the lines at a point that are present: those whose two sides differ.
+pub fn present(cells: [[u16; 2]; 2]) -> u16
+    ensures { λ r. ⌜ r ≡ present cells ⌝ }
+{
+    let nw = cells[0][0];
+    let ne = cells[0][1];
+    let sw = cells[1][0];
+    let se = cells[1][1];
+    let east = where_differ(se, ne, 1);
+    let south = where_differ(sw, se, 2);
+    let west = where_differ(nw, sw, 4);
+    let north = where_differ(ne, nw, 8);
+    east + south + west + north
+}
+
+// How many lines are present at a point.
+pub fn degree(cells: [[u16; 2]; 2]) -> u16
+    ensures { λ r. ⌜ r ≡ degree (present cells) ⌝ }
+{
+    let lines = present(cells);
+    lines % 2 + lines / 2 % 2 + lines / 2 / 2 % 2 + lines / 2 / 2 / 2 % 2
+}
+
+// The mask of the present lines whose opposite line is present too.
+pub fn in_line(cells: [[u16; 2]; 2]) -> u16
+    ensures { λ r. ⌜ r ≡ inline (present cells) ⌝ }
+{
+    let lines = present(cells);
+    let along = lines % 2 + lines / 2 / 2 % 2;
+    let down = lines / 2 % 2 + lines / 2 / 2 / 2 % 2;
+    5 * (along / 2) + 10 * (down / 2)
+}
+
+// The cell on the right hand of the line that leaves a point in a direction; 0 for no direction.
+pub fn right(cells: [[u16; 2]; 2], direction: u16) -> u16
+    ensures { λ r. ⌜ r ≡ right cells direction ⌝ }
+{
+    match direction {
+        0 => cells[1][1],
+        1 => cells[1][0],
+        2 => cells[0][0],
+        3 => cells[0][1],
+        _ => 0,
+    }
+}
+
+// The cell on the left hand of the line that leaves a point in a direction; 0 for no direction.
+pub fn left(cells: [[u16; 2]; 2], direction: u16) -> u16
+    ensures { λ r. ⌜ r ≡ left cells direction ⌝ }
+{
+    match direction {
+        0 => cells[0][1],
+        1 => cells[1][1],
+        2 => cells[1][0],
+        3 => cells[0][0],
+        _ => 0,
+    }
+}
