@@ -193,8 +193,8 @@ static void row(const char *name) {
     struct times our, plain;
     measure(&our, &plain);
     double draw = our.draw / plain.draw, join = our.join / our.draw;
-    printf("| %s | %.0f | %.0f | %.2f | %.2f | %.2f | %.2f | %.2f |\n", name, our.draw, plain.draw, draw,
-           our.check / plain.check, our.join / plain.join, our.check / our.draw, join);
+    printf("| %s | %.2f | %.2f | %.2f | %.2f | %.2f | %.2f |\n", name, draw, our.check / plain.check, our.join / plain.join,
+           our.check / our.draw, join, (our.join - our.check) / our.draw);
     if (draw > most_draw) most_draw = draw;
     if (join > most_join) most_join = join;
 }
@@ -215,8 +215,8 @@ static void growth(void) {
 }
 
 int main(void) {
-    printf("| sheet, 72 by 72 | drawing, microseconds | plain C | drawing / plain | judging / plain | join / plain "
-           "| judging / drawing | join / drawing |\n|---|---|---|---|---|---|---|---|\n");
+    printf("| sheet, 72 by 72 | drawing / plain | judging / plain | join / plain | judging / drawing | join / drawing "
+           "| join without its judging / drawing |\n|---|---|---|---|---|---|---|\n");
     random_sheets(LIMIT, 2);
     row("2 random labels");
     random_sheets(LIMIT, 4);

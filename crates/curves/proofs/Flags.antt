@@ -56,7 +56,7 @@ pub settle-entry : (ks m t k : List ℕ) (p l u f v : ℕ) → ks ≡ kinding �
 unfolding settles large kindAt
 settle-entry ks m t k p l u f v q e g h i = rw (← e, ← g, ← h, ← (kind-large l), ← q) i
 
-and-none : (b : Bool) → (b && false) ≡ false
+pub and-none : (b : Bool) → (b && false) ≡ false
 and-none true = refl
 and-none false = refl
 

@@ -13,6 +13,7 @@ use Rattle.laws.proofs.Walk.{run-stop, run-go}
 use Rattle.plane.specs.Dart.{mark, dart, point, direction, turned}
 use Rattle.paper.specs.Joining.{at, on}
 use Rattle.curves.specs.Link.{ahead, keptAt, starts, lastOf, back}
+use Rattle.curves.proofs.Flags.{and-none}
 
 pub record Running (n : ℕ) (x k : List ℕ) (s i d a : ℕ) : Type 0 where
   pub same : lastOf n x k s ≡ lastOf i x k d
@@ -61,9 +62,9 @@ module _ (x k : List ℕ) (d : ℕ) where
   unfolding starts on
   off-start e = rw (eq-eqb _ mark e)
 
-  out-start : at x d ≢ mark → at k (d / 4) ≢ 1 → starts x k d ≡ false
-  unfolding starts on keptAt point
-  out-start e f = rw (ne-eqb _ mark e, ne-eqb _ 1 f)
+  out-start : at k (d / 4) ≢ 1 → starts x k d ≡ false
+  unfolding starts keptAt point
+  out-start f = rw (ne-eqb _ 1 f) (and-none (on x d))
 
   in-start : at x d ≢ mark → at k (d / 4) ≡ 1 → starts x k d ≡ true
   unfolding starts on keptAt point
@@ -72,9 +73,9 @@ module _ (x k : List ℕ) (d : ℕ) where
   pub starts-off : (v y z : ℕ) → v ≡ at x d → v ≡ mark → (mark ≡ cond (starts x k d) y mark) × (mark ≡ cond (starts x k d) z mark)
   starts-off v y z e f = rw (off-start (sym e ∙ f)) (refl, refl)
 
-  pub starts-out : (v u y z : ℕ) → v ≡ at x d → v ≢ mark → u ≡ at k (d / 4) → u ≢ 1
+  pub starts-out : (u y z : ℕ) → u ≡ at k (d / 4) → u ≢ 1
       → (mark ≡ cond (starts x k d) y mark) × (mark ≡ cond (starts x k d) z mark)
-  starts-out v u y z e f g h = rw (out-start (λ q. f (e ∙ q)) (λ q. h (g ∙ q))) (refl, refl)
+  starts-out u y z g h = rw (out-start (λ q. h (g ∙ q))) (refl, refl)
 
   pub starts-in : (n v u l a : ℕ) → v ≡ at x d → v ≢ mark → u ≡ at k (d / 4) → u ≡ 1 → l ≡ lastOf n x k d → a ≡ at x l
       → (a ≡ cond (starts x k d) (at x (lastOf n x k d)) mark)

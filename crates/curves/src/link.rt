@@ -56,13 +56,13 @@ fn linked(steps: u16, next: &[u16], kept: &[u16], d: u16) -> Pair
         mark)
         ⌝ }
 {
-    if entry::get(next, d) == dart::MARK {
+    if entry::get(kept, d / 4) != 1 {
         return Pair {
             next: dart::MARK,
             other: dart::MARK,
         };
     }
-    if entry::get(kept, d / 4) != 1 {
+    if entry::get(next, d) == dart::MARK {
         return Pair {
             next: dart::MARK,
             other: dart::MARK,

@@ -64,19 +64,17 @@ fn turns() -> [u16; 64]
     turns
 }
 
-// The dart that follows a line which is present and leads to a point in a direction; else the mark.
+// The dart that follows a line which is present and leads to a point in a direction; else the mark. The dart is found
+// either way and chosen last, since which lines are present is hard to foresee.
 fn follow(turns: &[u16; 64], masks: &[u16], bit: u16, far: u16, direction: u16) -> u16
     requires { ⌜ (now turns ≡ turning) × (far < 16383) × (direction < 4) ⌝ }
     ensures { λ r. ⌜ r ≡ cond (eqb bit 1) (dart far (turnOf (at (now (masks .entry)) far) direction)) mark ⌝ }
 {
-    if bit != 1 {
-        return dart::MARK;
-    }
     let lines = entry::get(masks, far);
     if 15 < lines {
-        return 4 * far + turn::NONE;
+        return where_present(bit, 4 * far + turn::NONE);
     }
-    4 * far + turns[(4 * lines + direction) as usize]
+    where_present(bit, 4 * far + turns[(4 * lines + direction) as usize])
 }
 
 // Next of the four darts that leave a point.
