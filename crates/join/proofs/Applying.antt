@@ -15,19 +15,8 @@ use Rattle.paper.proofs.Piece.{tops-le}
 use Rattle.drawing.specs.Given.{tables}
 use Rattle.enclosure.specs.Tops.{Rising}
 use Rattle.removal.specs.Links.{links}
-use Rattle.join.specs.Apply.{dropped}
+use Rattle.dropping.specs.Dropped.{dropped}
 use Rattle.join.proofs.Fewer.{dropped-fewer, on-lowered}
-
--- Step 2 after it.
-pub drop-links : (w h a b : ℕ) (s n o : List ℕ) (k j : Links) → k ≡ removed w h (links n o) (shared s (at o) a b)
-    → j ≡ pruned w h k → j ≡ dropped w h s a b (links n o)
-unfolding dropped
-drop-links w h a b s n o k j f g = g ∙ ap (pruned w h) f
-
--- at level 1, where the others are the reversals
-pub drop-plain : (w h a b : ℕ) (s n o u v r : List ℕ) → o ≡ r → links u v ≡ dropped w h s a b (links n o)
-    → u ≡ dropped w h s a b (links n r) .next
-drop-plain w h a b s n o u v r e f = ap (λ l. l .next) (rw e at f)
 
 -- Steps 3 to 5.
 pub tops-rising : (w h : ℕ) (o : ℕ → Bool) (t : List ℕ) → t ≡ tops w h o → Rising t

@@ -20,7 +20,7 @@ use Rattle.paper.specs.Level.{marked}
 use Rattle.paper.specs.Joining.{Links, at, on, shared, chase, removed, hanging, prune, pruned}
 use Rattle.paper.proofs.Marks.{at-below, at-past, at-marked}
 use Rattle.removal.specs.Taken.{loose}
-use Rattle.join.specs.Apply.{dropped}
+use Rattle.dropping.specs.Dropped.{dropped}
 use Rattle.table.proofs.Entries.{at-out}
 use Rattle.table.proofs.Entries.{on-mark}
 

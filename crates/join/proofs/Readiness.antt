@@ -5,7 +5,8 @@ use mathlib.Core.List.{List}
 use Prim.Native.Nat.{ℕ, _<_}
 use native.Mathlib.Omega.{arith}
 use Rattle.plane.specs.Size.{within}
-use Rattle.plane.specs.Dart.{mark}
+use Rattle.laws.specs.Table.{table}
+use Rattle.plane.specs.Dart.{mark, slots, reversal}
 use Rattle.paper.specs.Name.{names}
 use Rattle.paper.specs.Level.{side, border, next, plain, level}
 use Rattle.paper.specs.Drawing.{Tables, drawn, drawing, Drawn}
@@ -14,8 +15,10 @@ use Rattle.paper.specs.Refusal.{stated, used}
 use Rattle.paper.proofs.Sheet.{border-below}
 use Rattle.paper.proofs.Marks.{on-marked, cells-slots, within-fits, names-side-small}
 use Rattle.drawing.proofs.Stated.{stated-parent}
+use Rattle.dropping.specs.Mapped.{Mapped}
 use Rattle.join.specs.Apply.{Ready}
 use Rattle.join.proofs.Fewer.{marked-held, on-below}
+use Rattle.join.proofs.Mapping.{plain-mapped, curves-mapped}
 
 -- every line of a drawing has its sides
 drawing-sided : (w h : ℕ) (s : List ℕ) → within w h ≡ true → (d : ℕ) → on (drawing w h s .next1) d ≡ true
@@ -26,6 +29,17 @@ drawing-sided w h s e d q =
     on-marked w h (border w h n) (side w h n) (border-below w h n)
     (λ d _. names-side-small w h s (within-fits w h e) d) d
     ∙ marked-held w h (border w h n) (next w (border w h n)) d q
+
+-- its links are those of maps
+drawing-plain : (w h : ℕ) (s : List ℕ) → within w h ≡ true
+    → Mapped (drawing w h s .side1) (drawing w h s .next1) (table (slots w h) (reversal w))
+unfolding drawing
+drawing-plain w h s e = plain-mapped w h (names w h s) (within-fits w h e)
+
+drawing-curves : (w h : ℕ) (s : List ℕ) → within w h ≡ true
+    → Mapped (drawing w h s .side1) (drawing w h s .next3) (drawing w h s .other3)
+unfolding drawing
+drawing-curves w h s e = curves-mapped w h (names w h s) (within-fits w h e)
 
 -- a name that is in use is below the mark
 used-small : (w h : ℕ) (t : Tables) (ws : List (List ℕ)) (a : ℕ) → within w h ≡ true → stated w h t ws ≡ true
@@ -43,4 +57,6 @@ drawn-ready w h t ws a b e f g u v =
       first = used-small w h t ws a e f u;
       second = used-small w h t ws b e f v;
       sided = rw (← (g .same)) (drawing-sided w h (g .labels) e);
+      plain = rw (← (g .same)) (drawing-plain w h (g .labels) e);
+      curves = rw (← (g .same)) (drawing-curves w h (g .labels) e);
     }

@@ -1,19 +1,17 @@
 -- Joining, as it is done in the tables.
---   dropped w h s a b l == the links l without the darts of sides a and b, and without hanging ends
 --   Ready w h t ws a b == the size is one, the tables t and the work tables ws have the stated lengths, a and b may be
---                      names, and every dart that has a next has a side
+--                      names, every dart that has a next has a side, and the links of both levels are those of maps
 use mathlib.Core.Path.{_≡_}
 use mathlib.Core.Bool.{true}
 use mathlib.Core.List.{List}
 use Prim.Native.Nat.{ℕ, _<_}
 use Rattle.plane.specs.Size.{within}
-use Rattle.plane.specs.Dart.{mark}
+use Rattle.laws.specs.Table.{table}
+use Rattle.plane.specs.Dart.{mark, slots, reversal}
 use Rattle.paper.specs.Drawing.{Tables}
-use Rattle.paper.specs.Joining.{Links, at, on, shared, removed, pruned}
+use Rattle.paper.specs.Joining.{on}
 use Rattle.paper.specs.Refusal.{stated}
-
-unfoldable pub dropped : ℕ → ℕ → List ℕ → ℕ → ℕ → Links → Links
-dropped w h s a b l = pruned w h (removed w h l (shared s (at (l .other)) a b))
+use Rattle.dropping.specs.Mapped.{Mapped}
 
 pub record Ready (w h : ℕ) (t : Tables) (ws : List (List ℕ)) (a b : ℕ) : Type 0 where
   pub size : within w h ≡ true
@@ -21,3 +19,5 @@ pub record Ready (w h : ℕ) (t : Tables) (ws : List (List ℕ)) (a b : ℕ) : T
   pub first : a < mark
   pub second : b < mark
   pub sided : (d : ℕ) → on (t .next1) d ≡ true → on (t .side1) d ≡ true
+  pub plain : Mapped (t .side1) (t .next1) (table (slots w h) (reversal w))
+  pub curves : Mapped (t .side1) (t .next3) (t .other3)

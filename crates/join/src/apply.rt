@@ -1,11 +1,10 @@
 use closing::close;
 use closing::side;
 use closing::smooth;
+use dropping::drop;
+use dropping::list;
 use enclosure::parent;
 use region::points;
-use removal::back;
-use removal::prune;
-use removal::shared;
 use table::entry;
 ghost use mathlib.Core.Path.{_≡_};
 ghost use mathlib.Core.Bool.{true};
@@ -20,61 +19,7 @@ ghost use Rattle.paper.specs.Joining.{at, on, smoothed, closes, joined};
 ghost use Rattle.paper.specs.Refusal.{cleared};
 ghost use Rattle.drawing.specs.Given.{tables, works};
 ghost use Rattle.removal.specs.Links.{links};
-ghost use Rattle.join.specs.Apply.{dropped, Ready};
-
-// Steps 1 and 2 at a level: the darts with the sides a and b go, then hanging ends. Taken and leaps are work.
-fn drop_lines(
-    width: u16,
-    height: u16,
-    a: u16,
-    b: u16,
-    side: &[u16],
-    next: &mut [u16],
-    other: &mut [u16],
-    taken: &mut [u16],
-    leaps: &mut [u16],
-)
-    requires { ⌜
-        (within width height ≡ true) × (a < mark) × (b < mark) × (length (now side) ≡ slots width height) ×
-        (length (now next) ≡ slots width height) × (length (now other) ≡ slots width height) ×
-        (length (now taken) ≡ slots width height) × (length (now leaps) ≡ slots width height)
-        ⌝ }
-    ensures { λ _. ⌜
-        links (now (next .exit)) (now (other .exit)) ≡
-        dropped width height (now (side .entry)) a b (links (now (next .entry)) (now (other .entry)))
-        ⌝ }
-{
-    shared::remove_shared(width, height, side, a, b, next, other, taken, leaps);
-    prune::prune(width, height, next, other, taken, leaps);
-}
-
-// Steps 1 and 2 at level 1, where the other of a dart is its reversal. Back, taken and leaps are work.
-fn drop_plain_lines(
-    width: u16,
-    height: u16,
-    a: u16,
-    b: u16,
-    side: &[u16],
-    next: &mut [u16],
-    back: &mut [u16],
-    taken: &mut [u16],
-    leaps: &mut [u16],
-)
-    requires { ⌜
-        (within width height ≡ true) × (a < mark) × (b < mark) × (length (now side) ≡ slots width height) ×
-        (length (now next) ≡ slots width height) × (length (now back) ≡ slots width height) ×
-        (length (now taken) ≡ slots width height) × (length (now leaps) ≡ slots width height)
-        ⌝ }
-    ensures { λ _. ⌜
-        now (next .exit) ≡
-        dropped width height (now (side .entry)) a b
-        (links (now (next .entry)) (table (slots width height) (reversal width)))
-        .next
-        ⌝ }
-{
-    back::fill_reversals(width, height, back);
-    drop_lines(width, height, a, b, side, next, back, taken, leaps);
-}
+ghost use Rattle.join.specs.Apply.{Ready};
 
 // Steps 3 to 5 from the lines that remain and their sides: points go, closed curves move to their anchors, parents are
 // found. Top is work.
@@ -140,8 +85,33 @@ pub fn apply(
         (works (now («work_a» .entry)) (now («work_b» .entry)) (now («work_c» .entry)) (now («work_d» .entry))))
         ⌝ }
 {
-    drop_plain_lines(width, height, a, b, side1, next1, work_a, work_b, work_c);
-    drop_lines(width, height, a, b, side1, next3, other3, work_b, work_c);
+    let first = list::list_darts(side1, a, b, work_d);
+    drop::drop_plain_lines(
+        width,
+        height,
+        a,
+        b,
+        side1,
+        first,
+        work_d,
+        next1,
+        work_a,
+        work_b,
+        work_c,
+    );
+    drop::drop_lines(
+        width,
+        height,
+        a,
+        b,
+        side1,
+        first,
+        work_d,
+        next3,
+        other3,
+        work_b,
+        work_c,
+    );
     side::lower_sides(a, b, next1, side1);
     let n = ((width + 1) * (height + 1)) as usize;
     settle(

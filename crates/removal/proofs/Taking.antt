@@ -59,7 +59,7 @@ module _ (l : Links) (f : ℕ → Bool) where
   unfolding leaping
   hop-left d e = rw e
 
-  chases-left : (n d : ℕ) → f d ≡ false → chases n d ≡ d
+  pub chases-left : (n d : ℕ) → f d ≡ false → chases n d ≡ d
   unfolding run
   chases-left zero d e = refl
   chases-left (suc n) d e = rw (e, run)
@@ -72,7 +72,7 @@ module _ (l : Links) (f : ℕ → Bool) where
       go true e = rw (hop-taken d e, e, run)
       go false e = chases-left (suc n) d e ∙ sym (chases-left n d e) ∙ ap (chases n) (sym (hop-left d e))
 
-  chase-hops : (d : ℕ) → chase l f d ≡ hop (hop (hop (hop d)))
+  pub chase-hops : (d : ℕ) → chase l f d ≡ hop (hop (hop (hop d)))
   unfolding chase run
   chase-hops d = chases-hop 3 d ∙ chases-hop 2 (hop d) ∙ chases-hop 1 (hop (hop d)) ∙ chases-hop 0 (hop (hop (hop d)))
 
@@ -157,53 +157,3 @@ module _ (w h : ℕ) (n o t : List ℕ) (full : length t ≡ slots w h) where
       → s ≡ table a (leaping (links n o) (flagged t)) → o₁ ≡ table b (λ d. cond (rest d) (at o d) mark)
       → n₁ ≡ table c (λ d. cond (rest d) (chased s (at n d)) mark) → links n₁ o₁ ≡ removed w h (links n o) (flagged t)
   remove-links a b c p q r s n₁ o₁ e f g = removed-links s n₁ o₁ (rw p at e) (rw q at f) (rw r at g)
-
--- The darts with the sides a and b.
-or-same : (c : Bool) → (c || c) ≡ c
-or-same true = refl
-or-same false = refl
-
-or-off : (c : Bool) → (c || false) ≡ c
-or-off true = refl
-or-off false = refl
-
-module _ (s : List ℕ) (o : ℕ → ℕ) (a b d x : ℕ) (e : x ≡ at s d) where
-  pub shared-first : x ≡ a → eqb (at s (o d)) b ≡ shared s o a b d
-  unfolding shared between
-  shared-first p = rw (← e, p, eq-eqb a a refl) (go (eqb a b) refl)
-    where
-      go : (c : Bool) → eqb a b ≡ c → eqb (at s (o d)) b ≡ (eqb (at s (o d)) b || c && eqb (at s (o d)) a)
-      go true q = rw (eqb-true a b q) (sym (or-same (eqb (at s (o d)) b)))
-      go false q = sym (or-off (eqb (at s (o d)) b))
-
-  pub shared-second : (x ≡ a → ⊥) → x ≡ b → eqb (at s (o d)) a ≡ shared s o a b d
-  unfolding shared between
-  shared-second n p = rw (← e, ne-eqb x a n, eq-eqb x b p)
-
-  pub shared-neither : (x ≡ a → ⊥) → (x ≡ b → ⊥) → false ≡ shared s o a b d
-  unfolding shared between
-  shared-neither n m = rw (← e, ne-eqb x a n, ne-eqb x b m)
-
--- the side across a dart
-module _ (s o : List ℕ) (d name x v : ℕ) (e : x ≡ at o d) (f : v ≡ at s x) where
-  pub across-same : v ≡ name → 1 ≡ number (eqb (at s (at o d)) name)
-  across-same p = rw (← e, ← f, eq-eqb v name p)
-
-  pub across-other : (v ≡ name → ⊥) → 0 ≡ number (eqb (at s (at o d)) name)
-  across-other p = rw (← e, ← f, ne-eqb v name p)
-
--- past the end no dart has the sides a and b
-pub shared-past : (s : List ℕ) (o : ℕ → ℕ) (a b : ℕ) → a ≢ mark → b ≢ mark → (d : ℕ) → length s ≤ d
-    → shared s o a b d ≡ false
-shared-past s o a b p q d h =
-    let e = at-out s d h in
-    sym (shared-neither s o a b d mark e (λ r. p (sym r)) (λ r. q (sym r)))
-
--- Step 1.
-pub shared-links : (w h a b m : ℕ) (s n o t : List ℕ) (k : Links) → a < mark → b < mark → length s ≡ slots w h
-    → m ≡ slots w h → t ≡ flags m (shared s (at o) a b) → k ≡ removed w h (links n o) (flagged t)
-    → k ≡ removed w h (links n o) (shared s (at o) a b)
-shared-links w h a b m s n o t k p q l r e f =
-    let past : (d : ℕ) → m ≤ d → shared s (at o) a b d ≡ false =
-    λ d h. shared-past s (at o) a b (λ z. omega arith) (λ z. omega arith) d (omega arith) in
-    f ∙ ap (removed w h (links n o)) (ap flagged e ∙ flagged-flags m (shared s (at o) a b) past)

@@ -3,4 +3,3 @@ pub mod back;
 pub mod ends;
 pub mod prune;
 mod remove;
-pub mod shared;

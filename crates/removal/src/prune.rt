@@ -20,7 +20,7 @@ ghost use Rattle.removal.specs.Links.{links};
 ghost use Rattle.removal.specs.Taken.{flags, loose};
 
 // Whether one dart alone leaves a point: the point table, with no line taken, says that this cannot be.
-fn lone(kinds: &[u16; 16], next: &[u16], point: u16) -> bool
+pub fn lone(kinds: &[u16; 16], next: &[u16], point: u16) -> bool
     requires { ⌜ (now kinds ≡ kinding) × (dart point 3 < mark) ⌝ }
     ensures { λ r. ⌜ r ≡ eqb (degree (mask (on (now (next .entry))) point)) 1 ⌝ }
 {

@@ -1,6 +1,6 @@
 use mathlib.Core.Path.{_∙_}
 use borrow.Author.Needs.{needs}
-use Rattle.removal.proofs.Taking.{shared-first, shared-second, shared-neither}
+use Rattle.dropping.proofs.Sharing.{shared-first, shared-second, shared-neither}
 use Rattle.join.proofs.adjoin.is_between.Statement.{statement}
 use Rattle.join.proofs.adjoin.is_between.Tie as tie
 

@@ -1,4 +1,4 @@
-use mathlib.Core.Path.{sym, _∙_}
+use mathlib.Core.Path.{_≡_, sym, _∙_}
 use Prim.Native.Nat.{_+_, _*_, _≤_}
 use native.Mathlib.Omega.{arith}
 use lib.ListN.{length}
@@ -6,6 +6,7 @@ use lib.Seq.{length-take-le, length-front}
 use Rattle.plane.specs.Dart.{points, slots}
 use Rattle.plane.proofs.Limit.{within-limits}
 use Rattle.plane.proofs.Fit.{points-fit}
+use Rattle.paper.proofs.Marks.{within-fits}
 use Rattle.table.proofs.Cleared.{cleared-same}
 use Rattle.drawing.proofs.Stated.{stated-long}
 use Rattle.join.proofs.Applying.{all-steps}
@@ -13,15 +14,16 @@ use Rattle.join.proofs.apply.apply.Statement.{statement}
 use Rattle.join.proofs.apply.apply.Tie as tie
 
 -- From each call back to the call before it, and to the start.
-abbrev start : tie.After-drop-plain-lines → tie.Start
-start c =
-    c .before .before .before .before .before .before .before .before .before .before .before .before
-    .before .before .before
+abbrev start : tie.After-list-darts → tie.Start
+start c = c .before .before .before .before .before .before .before .before .before .before .before .before
+
+abbrev listed : tie.After-drop-plain-lines → tie.After-list-darts
+listed c = c .before .before .before .before .before .before .before .before .before
 
 abbrev plain : tie.After-drop-lines → tie.After-drop-plain-lines
 plain c =
     c .before .before .before .before .before .before .before .before .before .before .before .before
-    .before .before
+    .before .before .before
 
 abbrev lined : tie.After-lower-sides → tie.After-drop-lines
 lined c = c .before .before .before .before .before .before .before .before .before .before .before
@@ -34,82 +36,109 @@ settled c =
     c .before .before .before .before .before .before .before .before .before .before .before .before
     .before
 
-abbrev cleared : tie.After-slice-known26 → tie.After-clear-four
+abbrev cleared : tie.After-slice-known27 → tie.After-clear-four
 cleared c = c .before .before .before .before .before .before .before .before
 
--- A work table has room for the tops.
-work-room : (c : tie.Start) → (c .args .width + 1) * (c .args .height + 1) ≤ length (c .args .work-d .now)
+-- The list is as long as the work table that it stands in, and has room for the tops.
+list-long : (c : tie.After-list-darts)
+    → length (c .list-darts .last .1 .1 .1 .0) ≡ slots (start c .args .width) (start c .args .height)
+list-long c =
+    let z = stated-long _ _ _ _ _ _ _ _ _ _ _ (start c .pre .sizes) in
+    c .list-darts .kept .1 .1 .1 .0 ∙ z .work .3
+
+work-room : (c : tie.After-list-darts)
+    → (start c .args .width + 1) * (start c .args .height + 1) ≤ length (c .list-darts .last .1 .1 .1 .0)
 unfolding slots points
-work-room c = let z = stated-long _ _ _ _ _ _ _ _ _ _ _ (c .pre .sizes) in omega (arith, z .work .3)
+work-room c = omega (arith, list-long c)
+
+list-darts-requires : tie.Need-list-darts-requires
+list-darts-requires c κs =
+    let q = c .before .before .before .before .before .before .before .before .before .before .before .pre in
+    let z = stated-long _ _ _ _ _ _ _ _ _ _ _ (q .sizes) in
+    (z .lines .1 ∙ sym (z .work .3), omega (arith, z .work .3, within-fits _ _ (q .size)))
 
 drop-plain-lines-requires : tie.Need-drop-plain-lines-requires
 drop-plain-lines-requires c κs =
-    let b = c .before .before .before .before .before .before .before .before .before .before .before .before in
-    let q = b .before .before .pre in
-    let z = stated-long _ _ _ _ _ _ _ _ _ _ _ (q .sizes) in
-    (q .size, q .first, q .second, z .lines .1, z .lines .0, z .work .0, z .work .1, z .work .2)
+    let l = c .before .before .before .before .before .before .before .before in
+    let q = start l .pre in
+    let z = stated-long _ _ _ _ _ _ _ _ _ _ _ (q .sizes) in (
+      q .size,
+      q .first,
+      q .second,
+      z .lines .1,
+      list-long l,
+      z .lines .0,
+      z .work .0,
+      z .work .1,
+      z .work .2,
+      rw (z .work .3) at (l .list-darts .ensures),
+      q .plain,
+    )
 
 drop-lines-requires : tie.Need-drop-lines-requires
 drop-lines-requires c κs =
-    let b = c .before .before .before .before .before .before .before .before .before .before .before .before .before in
-    let q = start b .pre in
+    let d = c .before .before .before .before .before .before .before .before .before .before .before .before
+    .before .before in
+    let l = listed d in
+    let q = start l .pre in
     let z = stated-long _ _ _ _ _ _ _ _ _ _ _ (q .sizes) in
-    let k = b .drop-plain-lines .kept .1 .1 .1 .1 .1 .1 .1 in (
+    let k = d .drop-plain-lines .kept .1 .1 .1 .1 .1 .1 .1 .1 .1 in (
       q .size,
-      omega (arith, q .first, q .second),
-      omega (arith, q .first, q .second),
+      q .first,
+      q .second,
       z .lines .1,
+      list-long l,
       z .lines .2,
       z .lines .3,
       k .0 ∙ z .work .1,
       k .1 .0 ∙ z .work .2,
+      rw (z .work .3) at (l .list-darts .ensures),
+      q .curves,
     )
 
 lower-sides-requires : tie.Need-lower-sides-requires
 lower-sides-requires c κs =
-    let b = plain (c .before .before .before .before .before .before .before .before .before .before) in
-    let z = stated-long _ _ _ _ _ _ _ _ _ _ _ (start b .pre .sizes) in
-    b .drop-plain-lines .kept .1 .1 .1 .1 .1 .0 ∙ z .lines .0 ∙ sym (z .lines .1)
+    let d = plain (c .before .before .before .before .before .before .before .before .before .before) in
+    let z = stated-long _ _ _ _ _ _ _ _ _ _ _ (start (listed d) .pre .sizes) in
+    d .drop-plain-lines .kept .1 .1 .1 .1 .1 .1 .1 .0 ∙ z .lines .0 ∙ sym (z .lines .1)
 
 add-n : tie.Need-add-n
-add-n c = omega (arith, within-limits _ _ (start (plain (lined (c .before .before))) .pre .size))
+add-n c = omega (arith, within-limits _ _ (start (listed (plain (lined (c .before .before)))) .pre .size))
 
 add-n-2 : tie.Need-add-n-2
-add-n-2 c = omega (arith, within-limits _ _ (start (plain (lined (c .before .before))) .pre .size))
+add-n-2 c = omega (arith, within-limits _ _ (start (listed (plain (lined (c .before .before)))) .pre .size))
 
 mul-n : tie.Need-mul-n
 unfolding points
-mul-n c = omega (arith, points-fit _ _ (start (plain (lined (c .before .before))) .pre .size))
+mul-n c = omega (arith, points-fit _ _ (start (listed (plain (lined (c .before .before)))) .pre .size))
 
 cast-n : tie.Need-cast-n
 unfolding points
-cast-n c = omega (arith, points-fit _ _ (start (plain (lined (c .before .before))) .pre .size))
+cast-n c = omega (arith, points-fit _ _ (start (listed (plain (lined (c .before .before)))) .pre .size))
 
 slice-relend-prefix-settle : tie.Need-slice-relend-prefix-settle
-slice-relend-prefix-settle c =
-    let b = c .before .before .before .before .before .before .before in
-    work-room (start (plain (lined b)))
+slice-relend-prefix-settle c = work-room (listed (plain (lined (c .before .before .before .before .before .before .before))))
 
 slice-aggregate-settle : tie.Need-slice-aggregate-settle
 slice-aggregate-settle c =
-    let b = c .before .before .before .before .before .before .before .before in
-    sym (length-take-le _ _ (work-room (start (plain (lined b)))))
+    let l = listed (plain (lined (c .before .before .before .before .before .before .before .before))) in
+    sym (length-take-le _ _ (work-room l))
 
 settle-requires : tie.Need-settle-requires
 unfolding points
 settle-requires c κs =
     let b = c .before .before .before .before .before .before .before .before in
-    let a = start (plain (lined b)) in
-    let z = stated-long _ _ _ _ _ _ _ _ _ _ _ (a .pre .sizes) in
-    let t = length-take-le _ _ (work-room a) in
-    (a .pre .size, b .lower-sides .kept .1 .1 .1 .0 ∙ z .lines .1, z .names, t)
+    let l = listed (plain (lined b)) in
+    let z = stated-long _ _ _ _ _ _ _ _ _ _ _ (start l .pre .sizes) in
+    let t = length-take-le _ _ (work-room l) in
+    (start l .pre .size, b .lower-sides .kept .1 .1 .1 .0 ∙ z .lines .1, z .names, t)
 
 clear-four-requires : tie.Need-clear-four-requires
 clear-four-requires c κs = tt
 
 -- Each table keeps its length.
 same-length : tie.Need-same-length
-same-length c = plain (lined (lowered (settled (cleared c)))) .drop-plain-lines .kept .1 .1 .1 .1 .1 .0
+same-length c = plain (lined (lowered (settled (cleared c)))) .drop-plain-lines .kept .1 .1 .1 .1 .1 .1 .1 .0
 
 same-length-2 : tie.Need-same-length-2
 same-length-2 c = lowered (settled (cleared c)) .lower-sides .kept .1 .1 .1 .0
@@ -117,12 +146,12 @@ same-length-2 c = lowered (settled (cleared c)) .lower-sides .kept .1 .1 .1 .0
 same-length-3 : tie.Need-same-length-3
 same-length-3 c =
     let s = settled (cleared c) in
-    s .settle .kept .1 .1 .1 .1 .0 ∙ lined (lowered s) .drop-lines .kept .1 .1 .1 .1 .1 .0
+    s .settle .kept .1 .1 .1 .1 .0 ∙ lined (lowered s) .drop-lines .kept .1 .1 .1 .1 .1 .1 .1 .0
 
 same-length-4 : tie.Need-same-length-4
 same-length-4 c =
     let s = settled (cleared c) in
-    s .settle .kept .1 .1 .1 .1 .1 .0 ∙ lined (lowered s) .drop-lines .kept .1 .1 .1 .1 .1 .1 .0
+    s .settle .kept .1 .1 .1 .1 .1 .0 ∙ lined (lowered s) .drop-lines .kept .1 .1 .1 .1 .1 .1 .1 .1 .0
 
 same-length-5 : tie.Need-same-length-5
 same-length-5 c = settled (cleared c) .settle .kept .1 .1 .1 .1 .1 .1 .0
@@ -130,51 +159,57 @@ same-length-5 c = settled (cleared c) .settle .kept .1 .1 .1 .1 .1 .1 .0
 same-length-6 : tie.Need-same-length-6
 same-length-6 c =
     let b = plain (lined (lowered (settled (cleared c)))) in
-    cleared c .clear-four .kept .0 ∙ b .drop-plain-lines .kept .1 .1 .1 .1 .1 .1 .0
+    cleared c .clear-four .kept .0 ∙ b .drop-plain-lines .kept .1 .1 .1 .1 .1 .1 .1 .1 .0
 
 same-length-7 : tie.Need-same-length-7
 same-length-7 c =
     let l = lined (lowered (settled (cleared c))) in
-    cleared c .clear-four .kept .1 .0 ∙ l .drop-lines .kept .1 .1 .1 .1 .1 .1 .1 .0
-    ∙ plain l .drop-plain-lines .kept .1 .1 .1 .1 .1 .1 .1 .0
+    cleared c .clear-four .kept .1 .0 ∙ l .drop-lines .kept .1 .1 .1 .1 .1 .1 .1 .1 .1 .0
+    ∙ plain l .drop-plain-lines .kept .1 .1 .1 .1 .1 .1 .1 .1 .1 .0
 
 same-length-8 : tie.Need-same-length-8
 same-length-8 c =
     let l = lined (lowered (settled (cleared c))) in
-    cleared c .clear-four .kept .1 .1 .0 ∙ l .drop-lines .kept .1 .1 .1 .1 .1 .1 .1 .1 .0
-    ∙ plain l .drop-plain-lines .kept .1 .1 .1 .1 .1 .1 .1 .1 .0
+    cleared c .clear-four .kept .1 .1 .0 ∙ l .drop-lines .kept .1 .1 .1 .1 .1 .1 .1 .1 .1 .1 .0
+    ∙ plain l .drop-plain-lines .kept .1 .1 .1 .1 .1 .1 .1 .1 .1 .1 .0
 
 same-length-9 : tie.Need-same-length-9
 same-length-9 c =
     let s = settled (cleared c) in
-    let a = start (plain (lined (lowered s))) .args in
+    let l = listed (plain (lined (lowered s))) in
+    let a = start l .args in
+    let list = l .list-darts .last .1 .1 .1 .0 in
     let top = s .settle .last .1 .1 .1 .1 .1 .1 .1 .0 in
     cleared c .clear-four .kept .1 .1 .1 .0
-    ∙ length-front (a .work-d .now) top ((a .width + 1) * (a .height + 1)) (s .settle .kept .1 .1 .1 .1 .1 .1 .1 .0)
+    ∙ length-front list top ((a .width + 1) * (a .height + 1)) (s .settle .kept .1 .1 .1 .1 .1 .1 .1 .0)
+    ∙ l .list-darts .kept .1 .1 .1 .0
 
 returns : tie.Need-returns
 returns c =
     let s = settled (cleared c) in
     let l = lined (lowered s) in
-    let a = start (plain l) in
+    let m = listed (plain l) in
+    let a = start m in
     let z = stated-long _ _ _ _ _ _ _ _ _ _ _ (a .pre .sizes) in
     let d = plain l .drop-plain-lines in
     let e = l .drop-lines in
-    let f = d .kept .1 .1 .1 .1 .1 .1 in
-    let g = e .kept .1 .1 .1 .1 .1 .1 .1 in
+    let f = d .kept .1 .1 .1 .1 .1 .1 .1 .1 in
+    let g = e .kept .1 .1 .1 .1 .1 .1 .1 .1 .1 in
+    let list = m .list-darts .last .1 .1 .1 .0 in
     let top = s .settle .last .1 .1 .1 .1 .1 .1 .1 .0 in (
       all-steps _ _ _ _ _ _ _ _ _ (a .pre .first) (a .pre .second) (z .lines .1) (a .pre .sided) _ _ _ _ _ _ (d .ensures)
           (e .ensures) (lowered s .lower-sides .ensures) (s .settle .ensures .0) (s .settle .ensures .1),
       cleared c .clear-four .ensures
           ∙ cleared-same _ _ _ _ _ _ _ _ (f .0) (g .0 ∙ f .1 .0) (g .1 .0 ∙ f .1 .1 .0)
-          (length-front (a .args .work-d .now) top ((a .args .width + 1) * (a .args .height + 1))
-          (s .settle .kept .1 .1 .1 .1 .1 .1 .1 .0)),
+          (length-front list top ((a .args .width + 1) * (a .args .height + 1)) (s .settle .kept .1 .1 .1 .1 .1 .1 .1 .0)
+          ∙ m .list-darts .kept .1 .1 .1 .0),
     )
 
 pub apply-spec : {M : Type 1} → statement M
 apply-spec =
     tie.close
     (tie.spec
+    list-darts-requires
     drop-plain-lines-requires
     drop-lines-requires
     lower-sides-requires

@@ -1,0 +1,5 @@
+mod Dropping
+mod Leading
+mod Listing
+pub mod Sharing
+mod Watching

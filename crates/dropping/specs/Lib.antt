@@ -1,0 +1,3 @@
+pub mod Dropped
+pub mod Listed
+pub mod Mapped
