@@ -1,10 +1,15 @@
 -- Reversals as numbers.
 --   beside w p k    == the point one line away from point p in direction k
 --   reversal w d    == the dart that leads back
-use mathlib.Core.Path.{_≡_}
-use Prim.Native.Nat.{ℕ, zero, suc, _+_, _*_, _/_, _%_, _≤_}
+use mathlib.Core.Path.{_≡_, refl}
+use mathlib.Core.List.{List}
+use Prim.Native.Nat.{ℕ, zero, suc, _+_, _*_, _/_, _%_, _≤_, _<_}
 use native.Mathlib.Omega.{arith}
-use Rattle.plane.specs.Dart.{point, direction, beside, far, turned, reversal}
+use native.Mathlib.Nat.{add-zero}
+use lib.ListN.{length, set}
+use Rattle.plane.specs.Dart.{dart, point, direction, beside, far, turned, reversal}
+use Rattle.table.proofs.Half.{Half, half-more}
+use Rattle.removal.specs.Links.{putReversals}
 
 -- the point beside a point is at most a row further on
 pub beside-le : (w p k : ℕ) → beside w p k ≤ p + (w + 1)
@@ -15,5 +20,28 @@ beside-le w p (suc (suc zero)) = omega arith
 beside-le w p (suc (suc (suc k))) = omega arith
 
 pub reversal-number : (w d q : ℕ) → q ≡ beside w (d / 4) (d % 4) → 4 * q + (d % 4 + 2) % 4 ≡ reversal w d
-unfolding reversal Rattle.plane.specs.Dart.dart far turned point direction
+unfolding reversal dart far turned point direction
 reversal-number w d q e = rw e
+
+-- a point's four reversals, two by two
+pub put-all : (w p : ℕ) (t t₁ t₂ : List ℕ) (a b c d : ℕ) → a ≡ reversal w (4 * p) → b ≡ reversal w (4 * p + 1)
+    → c ≡ reversal w (4 * p + 2) → d ≡ reversal w (4 * p + 3) → t₁ ≡ set (set t (4 * p) a) (4 * p + 1) b
+    → t₂ ≡ set (set t₁ (4 * p + 2) c) (4 * p + 3) d → t₂ ≡ putReversals w p t
+unfolding putReversals dart
+put-all w p t t₁ t₂ a b c d e f g h u v = rw (add-zero, v, u, e, f, g, h)
+
+-- the table so far, a point more
+pub reversals-more : (w p : ℕ) (s t : List ℕ) → Half (reversal w) (dart p 0) s t → dart p 3 < length s
+    → Half (reversal w) (dart (p + 1) 0) s (putReversals w p t)
+unfolding putReversals dart
+reversals-more w p s t r b =
+    let f = reversal w in
+    let e = half-more f (4 * p + 0) _ s t r (omega arith) refl in
+    let u = half-more f (4 * p + 1) _ s _ (rw (add-at p 0) at e) (omega arith) refl in
+    let v = half-more f (4 * p + 2) _ s _ (rw (add-at p 1) at u) (omega arith) refl in
+    let x = half-more f (4 * p + 3) _ s _ (rw (add-at p 2) at v) (omega arith) refl in
+    let z : 4 * p + 3 + 1 ≡ 4 * (p + 1) + 0 = omega arith in
+    rw z at x
+  where
+    add-at : (p i : ℕ) → 4 * p + i + 1 ≡ 4 * p + (i + 1)
+    add-at p i = omega arith

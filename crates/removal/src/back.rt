@@ -1,11 +1,13 @@
 use plane::dart;
+use table::entry;
 ghost use mathlib.Core.Path.{_≡_};
 ghost use mathlib.Core.Bool.{true};
 ghost use Prim.Native.Nat.{_+_, _*_, _<_};
 ghost use lib.ListN.{length};
 ghost use Rattle.laws.specs.Table.{table};
 ghost use Rattle.plane.specs.Size.{within};
-ghost use Rattle.plane.specs.Dart.{mark, slots, reversal};
+ghost use Rattle.plane.specs.Dart.{mark, slots, dart, reversal};
+ghost use Rattle.removal.specs.Links.{putReversals};
 
 // The dart that leads back; where a line leaves the sheet, the number that the rule gives.
 pub fn reversal(width: u16, dart: u16) -> u16
@@ -16,15 +18,31 @@ pub fn reversal(width: u16, dart: u16) -> u16
     4 * dart::beside(dart / 4, width, direction) + (direction + 2) % 4
 }
 
+// The reversals of the darts that leave a point.
+fn put_reversals(width: u16, point: u16, back: &mut [u16])
+    requires { ⌜ dart point 3 + 4 * (width + 2) < mark ⌝ }
+    ensures { λ _. ⌜ now (back .exit) ≡ putReversals width point (now (back .entry)) ⌝ }
+{
+    let d = 4 * point;
+    entry::put_pair(back, d, reversal(width, d), d + 1, reversal(width, d + 1));
+    entry::put_pair(
+        back,
+        d + 2,
+        reversal(width, d + 2),
+        d + 3,
+        reversal(width, d + 3),
+    );
+}
+
 // The reversal of every slot.
 pub fn fill_reversals(width: u16, height: u16, back: &mut [u16])
     requires { ⌜ (within width height ≡ true) × (length (now back) ≡ slots width height) ⌝ }
     ensures { λ _. ⌜ now (back .exit) ≡ table (slots width height) (reversal width) ⌝ }
 {
-    let n = back.len();
-    let mut i = 0;
-    while i < n {
-        back[i] = reversal(width, i as u16);
-        i += 1;
+    let n = (width + 1) * (height + 1);
+    let mut point: u16 = 0;
+    while point < n {
+        put_reversals(width, point, back);
+        point += 1;
     }
 }

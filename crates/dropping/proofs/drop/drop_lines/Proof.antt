@@ -7,12 +7,12 @@ use Rattle.dropping.proofs.drop.drop_lines.Statement.{statement}
 use Rattle.dropping.proofs.drop.drop_lines.Tie as tie
 
 remove-shared-requires : tie.Need-remove-shared-requires
-remove-shared-requires c κs = 
+remove-shared-requires c κs =
     let q = c .before .before .before .before .before .before .before .before .pre in
     (within-fits _ _ (q .0), q .1, q .2, q .3, q .4, q .5, q .6, q .9, q .10)
 
 prune-requires : tie.Need-prune-requires
-prune-requires c κs = 
+prune-requires c κs =
     let q = c .before .before .before .before .before .before .before .before .before .before .before .before .before .before .before .before .before .pre in
     let r = c .before .before .before .before .before .before .before .before .remove-shared in
     let k = r .kept .1 .1 .1 .1 .1 .1 .1 in (

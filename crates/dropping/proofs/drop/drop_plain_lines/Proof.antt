@@ -8,7 +8,7 @@ fill-reversals-requires : tie.Need-fill-reversals-requires
 fill-reversals-requires c κs = search needs
 
 drop-lines-requires : tie.Need-drop-lines-requires
-drop-lines-requires c κs = 
+drop-lines-requires c κs =
     let q = c .before .before .before .before .before .before .before .before .before .before .before .before .before .before .pre in
     let r = c .before .before .before .before .before .before .fill-reversals in (
       q .0,

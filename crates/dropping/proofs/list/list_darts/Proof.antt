@@ -48,7 +48,7 @@ loop-less : tie.Need-loop-less Inv-loop μ-loop
 loop-less c = omega (arith, c .before .before .before .loop-test .taken)
 
 loop-again : tie.Need-loop-again Inv-loop μ-loop
-loop-again c = 
+loop-again c =
     let r = c .before .before .before .before .loop .inv in
     let h = c .before .before .before .loop-test .taken in
     listing-more _ _ _ _ _ _ r (omega arith)
@@ -59,7 +59,7 @@ loop-less-2 : tie.Need-loop-less-2 Inv-loop μ-loop
 loop-less-2 c = omega (arith, c .before .before .before .loop-test .taken)
 
 loop-again-2 : tie.Need-loop-again-2 Inv-loop μ-loop
-loop-again-2 c = 
+loop-again-2 c =
     let r = c .before .before .before .before .loop .inv in
     let h = c .before .before .before .loop-test .taken in
     listing-less _ _ _ _ _ _ r (omega arith)

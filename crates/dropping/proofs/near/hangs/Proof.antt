@@ -29,13 +29,13 @@ loop-holds c = λ g. looked-none _ _ _ _ _ (g .list)
 
 lone-requires : tie.Need-lone-requires Inv-loop μ-loop
 unfolding slots points
-lone-requires c κs = 
+lone-requires c κs =
     let q = c .before .before .before .before .before .before .pre in
     let h = c .before .loop-test .taken in
     (c .before .before .before .kinds .ensures, darts-fit _ _ (q .0) (c .before .before .loop .dart / 4) (omega (arith, q .1)) .0)
 
 returns : tie.Need-returns Inv-loop μ-loop
-returns c = 
+returns c =
     let q = c .before .before .before .before .before .before .before .before .pre in
     λ o. found-hanging _ _ _ _ _ o (q .2) _ (omega (arith, q .1, c .before .before .before .loop-test .taken)) (sym (c .if1 .taken) ∙ c .before .lone .ensures)
 
@@ -50,7 +50,7 @@ shared-slice-read-dart : tie.Need-shared-slice-read-dart Inv-loop μ-loop
 shared-slice-read-dart c = omega (arith, c .before .before .before .before .loop-test .taken)
 
 loop-less : tie.Need-loop-less Inv-loop μ-loop
-loop-less c = 
+loop-less c =
     let q = c .before .before .before .before .before .before .before .before .before .pre in
     let h = c .before .before .before .before .loop-test .taken in
     let r = c .before .before .before .before .before .loop .inv (q .2) in
@@ -58,13 +58,13 @@ loop-less c =
     omega (arith, f .after, f .inside)
 
 loop-again : tie.Need-loop-again Inv-loop μ-loop
-loop-again c = 
+loop-again c =
     let q = c .before .before .before .before .before .before .before .before .before .pre in
     let h = c .before .before .before .before .loop-test .taken in
     λ g. looked-more _ _ _ _ _ (g .list) _ (c .before .before .before .before .before .loop .inv g) (omega (arith, q .1)) (sym (c .before .before .lone .ensures) ∙ c .before .if1 .left)
 
 returns-2 : tie.Need-returns-2 Inv-loop μ-loop
-returns-2 c = 
+returns-2 c =
     let q = c .before .before .before .before .before .pre in
     λ o. looked-all _ _ _ _ _ o (q .2) _ (c .before .loop .inv (q .2)) (omega (arith, q .1, c .loop-test .left))
 

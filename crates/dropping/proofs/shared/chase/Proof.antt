@@ -15,7 +15,7 @@ goes-on-requires-4 : tie.Need-goes-on-requires-4
 goes-on-requires-4 c κs = tt
 
 returns : tie.Need-returns
-returns c = 
+returns c =
     chase-four _ _ _ _ _ _ _ (c .before .before .before .goes-on .ensures) (c .before .before .goes-on2 .ensures) (c .before .goes-on3 .ensures)
     (c .goes-on4 .ensures)
 

@@ -13,7 +13,7 @@ get-requires-2 : tie.Need-get-requires-2
 get-requires-2 c κs = tt
 
 returns : tie.Need-returns
-returns c = 
+returns c =
     goes-on _ _ _ _ _ (c .before .get .ensures) (c .get2 .ensures) (sym (c .before .before .before .is-shared .ensures) ∙ c .before .before .if1 .taken)
 
 returns-2 : tie.Need-returns-2

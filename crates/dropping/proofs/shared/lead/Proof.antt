@@ -22,7 +22,7 @@ unfolding mark
 cast-n c = omega (arith, c .before .before .before .before .pre .2)
 
 loop-holds : tie.Need-loop-holds Inv-loop μ-loop
-loop-holds c = 
+loop-holds c =
     let q = c .before .before .before .before .pre in
     treated-none _ _ _ (λ d b e. unnamed-led _ _ _ _ _ (q .0) (q .1) (omega (arith, q .2, q .3)) (q .6) d e) _ _ (q .5)
 
@@ -50,14 +50,14 @@ shared-slice-read-dart : tie.Need-shared-slice-read-dart Inv-loop μ-loop
 shared-slice-read-dart c = omega (arith, c .before .before .before .before .before .before .before .before .before .pre .4, c .before .before .before .loop-test .taken)
 
 loop-less : tie.Need-loop-less Inv-loop μ-loop
-loop-less c = 
+loop-less c =
     let q = c .before .before .before .before .before .before .before .before .before .pre in
     let h = c .before .before .before .loop-test .taken in
     let r = c .before .before .before .before .loop .inv in
     let f = q .5 .steps _ h (r .here h) in omega (arith, f .after)
 
 loop-again : tie.Need-loop-again Inv-loop μ-loop
-loop-again c = 
+loop-again c =
     let q = c .before .before .before .before .before .before .before .before .before .pre in
     let h = c .before .before .before .loop-test .taken in
     let r = c .before .before .before .before .loop .inv in
@@ -68,7 +68,7 @@ same-length : tie.Need-same-length Inv-loop μ-loop
 same-length c = c .before .loop .inv .half .long
 
 returns : tie.Need-returns Inv-loop μ-loop
-returns c = 
+returns c =
     let q = c .before .before .before .before .before .before .pre in
     treated-all _ _ _ (λ d b e. unnamed-led _ _ _ _ _ (q .0) (q .1) (omega (arith, q .2, q .3)) (q .6) d e) _ _ (c .before .loop .inv) (c .loop-test .left)
 

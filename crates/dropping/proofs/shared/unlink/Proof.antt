@@ -57,14 +57,14 @@ shared-slice-read-dart : tie.Need-shared-slice-read-dart Inv-loop μ-loop
 shared-slice-read-dart c = omega (arith, c .before .before .before .before .before .before .before .before .before .pre .2, c .before .before .before .loop-test .taken)
 
 loop-less : tie.Need-loop-less Inv-loop μ-loop
-loop-less c = 
+loop-less c =
     let q = c .before .before .before .before .before .before .before .before .before .pre in
     let h = c .before .before .before .loop-test .taken in
     let r = c .before .before .before .before .loop .inv in
     let f = q .3 .steps _ h (r .here h) in omega (arith, f .after)
 
 loop-again : tie.Need-loop-again Inv-loop μ-loop
-loop-again c = 
+loop-again c =
     let q = c .before .before .before .before .before .before .before .before .before .pre in
     let h = c .before .before .before .loop-test .taken in
     let r = c .before .before .before .before .loop .inv in

@@ -1,52 +1,61 @@
 use Prim.Native.Nat.{_-_}
 use native.Mathlib.Omega.{arith}
-use Rattle.plane.specs.Dart.{mark, slots, reversal}
+use Rattle.plane.specs.Dart.{mark, points, slots, dart, reversal}
 use Rattle.plane.proofs.Limit.{within-limits}
 use Rattle.plane.proofs.Fit.{points-fit}
-use Rattle.table.proofs.Half.{Half, half-none, half-more, half-all}
+use Rattle.table.proofs.Half.{Half, half-none, half-all}
+use Rattle.removal.proofs.Reversals.{reversals-more}
 use Rattle.removal.proofs.back.fill_reversals.Statement.{statement}
 use Rattle.removal.proofs.back.fill_reversals.Tie as tie
 
 abbrev Inv-loop : tie.InvT-loop
-Inv-loop width height back₀ n i₀ back i = Half (reversal width) i back₀ back
+Inv-loop width height back₀ n point₀ back point = Half (reversal width) (dart point 0) back₀ back
 
 abbrev μ-loop : tie.MeasureT-loop
-μ-loop width height back₀ n i₀ back i = n - i
+μ-loop width height back₀ n point₀ back point = n - point
+
+add-n : tie.Need-add-n Inv-loop μ-loop
+add-n c = omega (arith, within-limits _ _ (c .before .pre .0))
+
+add-n-2 : tie.Need-add-n-2 Inv-loop μ-loop
+add-n-2 c = omega (arith, within-limits _ _ (c .before .pre .0))
+
+mul-n : tie.Need-mul-n Inv-loop μ-loop
+unfolding points
+mul-n c = omega (arith, points-fit _ _ (c .before .pre .0))
 
 loop-holds : tie.Need-loop-holds Inv-loop μ-loop
+unfolding dart
 loop-holds c = half-none _ _
 
-cast-reversal : tie.Need-cast-reversal Inv-loop μ-loop
-unfolding slots
-cast-reversal c = omega (arith, points-fit _ _ (c .before .before .before .pre .0))
+put-reversals-requires : tie.Need-put-reversals-requires Inv-loop μ-loop
+unfolding points dart mark
+put-reversals-requires c κs =
+    let q = c .before .before .before .before .pre in
+    omega (arith, points-fit _ _ (q .0), within-limits _ _ (q .0), c .before .loop-test .taken)
 
-reversal-requires : tie.Need-reversal-requires Inv-loop μ-loop
-unfolding slots mark
-reversal-requires c κs =
-    let c3 = c .before .before .before in
-    omega (arith, points-fit _ _ (c3 .pre .0), within-limits _ _ (c3 .pre .0))
-
-mul-back : tie.Need-mul-back Inv-loop μ-loop
-unfolding slots
-mul-back c = omega (arith, points-fit _ _ (c .before .before .before .before .pre .0))
-
-slice-write-back : tie.Need-slice-write-back Inv-loop μ-loop
-slice-write-back c = omega (arith, c .before .before .loop .inv .long)
-
-add-i : tie.Need-add-i Inv-loop μ-loop
-add-i c = omega arith
+add-point : tie.Need-add-point Inv-loop μ-loop
+unfolding points
+add-point c = omega (arith, points-fit _ _ (c .before .before .before .before .before .before .before .pre .0), c .before .before .before .before .loop-test .taken)
 
 loop-less : tie.Need-loop-less Inv-loop μ-loop
 loop-less c = omega arith
 
 loop-again : tie.Need-loop-again Inv-loop μ-loop
-loop-again c = half-more _ _ _ _ _ (c .before .before .loop .inv) (c .before .loop-test .taken) (c .reversal .ensures)
+unfolding slots points dart
+loop-again c =
+    let q = c .before .before .before .before .before .before .before .pre in
+    rw (c .before .before .put-reversals .ensures)
+    (reversals-more _ _ _ _ (c .before .before .before .before .before .loop .inv) (omega (arith, q .1, c .before .before .before .before .loop-test .taken)))
 
 same-length : tie.Need-same-length Inv-loop μ-loop
 same-length c = c .before .loop .inv .long
 
 returns : tie.Need-returns Inv-loop μ-loop
-returns c = half-all _ _ _ _ _ (c .before .loop .inv) (c .before .before .before .pre .1) (c .loop-test .left)
+unfolding slots points dart
+returns c =
+    let q = c .before .before .before .pre in
+    half-all _ _ _ _ _ (c .before .loop .inv) (q .1) (omega (arith, q .1, c .loop-test .left))
 
 pub fill-reversals-spec : {M : Type 1} → statement M
 fill-reversals-spec =
@@ -54,12 +63,12 @@ fill-reversals-spec =
     (tie.spec
     Inv-loop
     μ-loop
+    add-n
+    add-n-2
+    mul-n
     loop-holds
-    cast-reversal
-    reversal-requires
-    mul-back
-    slice-write-back
-    add-i
+    put-reversals-requires
+    add-point
     loop-less
     loop-again
     same-length
