@@ -1,5 +1,5 @@
-// Runs the cases of the files that its arguments name through the calls of deck, and writes what each answers. A file has
-// a case a line; a letter says which call:
+// Runs the cases of the files that its arguments name through the calls that read and write decks, and writes what each
+// answers. A file has a case a line; a letter says which call:
 //   R LENGTH HEX        reading the bytes, into a cell table of a length
 //   P WIDTH HEX         the part of the bytes that holds so many cells
 //   W W H LENGTH L L .. writing a sheet into so many bytes

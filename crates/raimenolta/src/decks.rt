@@ -1,10 +1,10 @@
 // Land decks: reading one, writing one, and the number for a row's card.
-use deck::answer::Read;
+use reading::answer::Read;
 ghost use mathlib.Core.Path.{_≡_};
 ghost use mathlib.Core.List.{[], _∷_};
-ghost use Rattle.deck.specs.Card.{partRefusal};
-ghost use Rattle.deck.specs.Reading.{reading};
-ghost use Rattle.deck.specs.Writing.{writing};
+ghost use Rattle.cards.specs.Part.{partRefusal};
+ghost use Rattle.reading.specs.Reading.{reading};
+ghost use Rattle.writing.specs.Writing.{writing};
 ghost use Rattle.drawing.specs.Answer.{left};
 ghost use Rattle.raimenolta.specs.Slot.{carded, slottedTwice};
 
@@ -23,7 +23,7 @@ pub extern "C" fn raimenolta_read(
         slottedTwice (carded (reading (now (deck .entry)) (now (cells .entry)))) (now (size .entry)) (now (card .entry) ∷ [])
         ⌝ }
 {
-    match deck::reading::read(deck, cells) {
+    match reading::deck::read(deck, cells) {
         Read::Sheet { width, height } => {
             *size = [width, height];
             0
@@ -45,7 +45,7 @@ pub extern "C" fn raimenolta_write(width: u16, height: u16, sheet: &[u16], deck:
         left r [] (now (deck .exit) ∷ []) [] ≡ carded (writing width height (now (sheet .entry)) (now (deck .entry)))
         ⌝ }
 {
-    let answer = deck::writing::write(width, height, sheet, deck);
+    let answer = writing::deck::write(width, height, sheet, deck);
     answer.number()
 }
 
@@ -54,5 +54,5 @@ pub extern "C" fn raimenolta_write(width: u16, height: u16, sheet: &[u16], deck:
 pub extern "C" fn raimenolta_part_refusal(width: u16, card: &[u8]) -> u16
     ensures { λ r. ⌜ r ≡ partRefusal width (now (card .entry)) ⌝ }
 {
-    deck::card::part_refusal(width, card)
+    cards::card::part_refusal(width, card)
 }

@@ -1,0 +1,2 @@
+pub mod Fault
+pub mod Part

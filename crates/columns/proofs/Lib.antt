@@ -1,0 +1,5 @@
+pub mod Cards
+pub mod Every
+pub mod Headings
+pub mod Sizes
+pub mod Table

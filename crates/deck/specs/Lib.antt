@@ -1,4 +1,0 @@
-pub mod Card
-pub mod Outcome
-pub mod Reading
-pub mod Writing

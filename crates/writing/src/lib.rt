@@ -1,0 +1,3 @@
+// Writing the deck of a sheet.
+pub mod answer;
+pub mod deck;
