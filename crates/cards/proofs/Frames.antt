@@ -10,8 +10,7 @@ use lib.Dec.{T, eqb, ltb, lit<}
 use lib.ListN.{length, getD, take}
 use lib.Seq.{slice}
 use Rattle.plane.specs.Size.{within}
-use Rattle.columns.specs.Card.{columns, places, blank, every, same, between, visible, digit, digits, card}
-use Rattle.cards.specs.Part.{whole}
+use Rattle.deck.specs.Card.{columns, places, blank, every, same, between, visible, digit, digits, card, whole}
 use Rattle.columns.specs.Layout.{heading}
 use Rattle.cards.specs.Fault.{first, numbered, frame, width, height, headed, header, row}
 use Rattle.columns.proofs.Cards.{card-columns, card-number}

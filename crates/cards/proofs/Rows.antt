@@ -10,8 +10,8 @@ use lib.ListN.{length, getD, take, drop, replicate, length-drop, take-append-dro
 use lib.Seq.{slice, take-at, drop-at, length-take-le, drop-cons, take-take}
 use borrow.Author.Tests.{ne-eqb}
 use Rattle.plane.specs.Size.{within}
-use Rattle.columns.specs.Card.{columns, places, long, blank, feed, every, same, visible, digit, digits, padded, card}
-use Rattle.cards.specs.Part.{whole}
+use Rattle.deck.specs.Card.{columns, places, long, blank, feed, every, same, visible, digit, digits, padded, card}
+use Rattle.deck.specs.Card.{whole}
 use Rattle.columns.specs.Layout.{heading}
 use Rattle.cards.specs.Fault.{numbered, frame, value, width, height, headed, header, row}
 use Rattle.columns.proofs.Cards.{length-card, card-content, card-feed, card-columns, card-number}
@@ -19,7 +19,7 @@ use Rattle.laws.proofs.Test.{and-right}
 use Rattle.columns.proofs.Every.{same-refl, same-true, every-blank, every-blanks}
 use Rattle.columns.proofs.Headings.{length-heading, heading-fits}
 use Rattle.cards.proofs.Frames.{header-is, header-frame, header-headed, row-is, row-none, frame-none}
-use Rattle.cards.proofs.Parts.{is-whole, whole-is}
+use Rattle.deck.proofs.Parts.{is-whole, whole-is}
 use Rattle.plane.proofs.Limit.{within-limits}
 
 -- A card with a content that fits it.

@@ -17,9 +17,8 @@ use Prim.Native.Nat.{ℕ, zero, suc, _+_, _*_, _-_}
 use lib.Dec.{eqb}
 use lib.ListN.{length, getD, take, drop}
 use Rattle.plane.specs.Size.{within}
-use Rattle.columns.specs.Card.{columns, places, blank, every, same, between, visible, digits, padded}
+use Rattle.deck.specs.Card.{columns, places, blank, every, same, between, visible, digits, padded, whole}
 use Rattle.columns.specs.Layout.{heading}
-use Rattle.cards.specs.Part.{whole}
 
 unfoldable pub first : ℕ → ℕ → ℕ
 first zero b = b

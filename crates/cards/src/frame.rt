@@ -1,7 +1,7 @@
-use crate::card;
 use columns::bytes;
-use columns::card::COLUMNS;
-use columns::card::PLACES;
+use deck::card;
+use deck::card::COLUMNS;
+use deck::card::PLACES;
 ghost use mathlib.Core.Path.{_≡_};
 ghost use Rattle.cards.specs.Fault.{frame};
 

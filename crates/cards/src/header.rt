@@ -1,7 +1,7 @@
 use crate::frame;
 use columns::bytes;
-use columns::card::COLUMNS;
 use columns::layout;
+use deck::card::COLUMNS;
 use plane::size;
 ghost use mathlib.Core.Path.{_≡_};
 ghost use Prim.Native.Nat.{_-_};

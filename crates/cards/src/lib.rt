@@ -1,5 +1,4 @@
-// A lent card: the part of it that holds its cells, and what it is refused for.
-pub mod card;
+// What a card is refused for: its frame, as a header, as a row's card.
 pub mod frame;
 pub mod header;
 pub mod row;

@@ -1,13 +1,13 @@
-use crate::card;
 use crate::frame;
 use columns::bytes;
-use columns::card::BLANK;
-use columns::card::COLUMNS;
-use columns::card::HIGHEST;
-use columns::card::LOWEST;
+use deck::card;
+use deck::card::BLANK;
+use deck::card::COLUMNS;
+use deck::card::HIGHEST;
+use deck::card::LOWEST;
 ghost use mathlib.Core.Path.{_≡_};
 ghost use mathlib.Core.Bool.{true};
-ghost use Rattle.cards.specs.Part.{measured};
+ghost use Rattle.deck.specs.Card.{measured};
 ghost use Rattle.cards.specs.Fault.{row};
 
 // The refusal of the card with a number that holds so many cells: its frame's, or 23 where a cell is not 33 to 126, or 24

@@ -6,7 +6,7 @@ use Prim.Native.Nat.{ℕ, zero, suc, _+_, _-_, _/_, _≤_, _<_}
 use native.Mathlib.Omega.{arith}
 use lib.ListN.{length, getD, take, drop, length-append, length-replicate, List·getD-append, getD-replicate}
 use lib.Seq.{slice, take-at, drop-at, take-append-add}
-use Rattle.columns.specs.Card.{columns, places, long, blank, feed, digit, digits, padded, card}
+use Rattle.deck.specs.Card.{columns, places, long, blank, feed, digit, digits, padded, card}
 use Rattle.columns.proofs.Table.{getD-past}
 
 -- Digits.

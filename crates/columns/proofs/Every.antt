@@ -13,7 +13,7 @@ use lib.ListN.{length, getD, take, drop, replicate, drop-of-length-le}
 use lib.Seq.{drop-cons, slice, slice-cons, slice-empty}
 use Rattle.laws.proofs.Test.{and-left, and-right}
 use borrow.Author.Tests.{eqb-true, eq-eqb, ne-eqb, le-leb, lt-leb, leb-true}
-use Rattle.columns.specs.Card.{blank, lowest, highest, every, same, between, visible}
+use Rattle.deck.specs.Card.{blank, lowest, highest, every, same, between, visible}
 
 -- A test of a range.
 pub between-below : (a b n : ℕ) → n < a → between a b n ≡ false

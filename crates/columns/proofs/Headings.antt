@@ -6,7 +6,7 @@ use Prim.Native.Nat.{ℕ, zero, suc, _≤_, _<_}
 use native.Mathlib.Omega.{arith}
 use lib.Dec.{T, ltb, lit<}
 use lib.ListN.{length, getD}
-use Rattle.columns.specs.Card.{columns, blank, digit, digits}
+use Rattle.deck.specs.Card.{columns, blank, digit, digits}
 use Rattle.columns.specs.Layout.{heading}
 
 pub length-heading : (w h : ℕ) → length (heading w h) ≡ 10

@@ -8,8 +8,9 @@ use native.Mathlib.Nat.{zero-mul, suc-mul, mul-comm, add-comm}
 use native.Mathlib.Omega.{arith}
 use Rattle.plane.specs.Size.{within}
 use Rattle.plane.proofs.Limit.{within-limits}
-use Rattle.columns.specs.Card.{columns}
+use Rattle.deck.specs.Card.{columns, measured}
 use Rattle.columns.specs.Layout.{rowCards, held}
+use Rattle.deck.proofs.Parts.{is-measured}
 
 module _ (w h : ℕ) (e : within w h ≡ true) where
   -- each card has a cell, and can hold its cells
@@ -20,6 +21,9 @@ module _ (w h : ℕ) (e : within w h ≡ true) where
   pub held-most : (k : ℕ) → held w k ≤ columns
   unfolding held columns
   held-most k = within-limits w h e .widest
+
+  pub held-measured : (k : ℕ) → measured (held w k) ≡ true
+  held-measured k = is-measured (held w k) (held-some k) (held-most k)
 
   -- the cards' numbers are small
   pub cards-few : rowCards w h + 2 < 256

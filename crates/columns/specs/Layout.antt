@@ -4,7 +4,7 @@
 --   held w k        == how many cells the card numbered k holds on a sheet of width w
 use mathlib.Core.List.{List, _∷_, _++_}
 use Prim.Native.Nat.{ℕ}
-use Rattle.columns.specs.Card.{blank, digits}
+use Rattle.deck.specs.Card.{blank, digits}
 
 unfoldable pub heading : ℕ → ℕ → List ℕ
 heading w h = 83 ∷ 72 ∷ 69 ∷ 69 ∷ 84 ∷ blank ∷ (digits 2 w ++ digits 2 h)

@@ -1,2 +1,1 @@
-pub mod Card
 pub mod Layout

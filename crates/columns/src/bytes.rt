@@ -1,12 +1,12 @@
-use crate::card::BLANK;
-use crate::card::COLUMNS;
-use crate::card::FEED;
-use crate::card::PLACES;
+use deck::card::BLANK;
+use deck::card::COLUMNS;
+use deck::card::FEED;
+use deck::card::PLACES;
 ghost use mathlib.Core.Path.{_≡_};
 ghost use Prim.Native.Nat.{ℕ, _≤_, _<_};
 ghost use lib.ListN.{length, getD};
 ghost use lib.Seq.{slice};
-ghost use Rattle.columns.specs.Card.{columns, long, every, same, between, digit, card};
+ghost use Rattle.deck.specs.Card.{columns, long, every, same, between, digit, card};
 
 // The byte of the decimal digit of a number that has so many digits after it.
 pub fn digit(number: u16, after: usize) -> u8

@@ -1,5 +1,5 @@
 use crate::bytes;
-use crate::card::BLANK;
+use deck::card::BLANK;
 ghost use mathlib.Core.Path.{_≡_};
 ghost use Rattle.columns.specs.Layout.{heading, rowCards, held};
 

@@ -1,8 +1,8 @@
 use cases::lent;
 use cases::show;
 use cases::text;
-use reading::answer::Read;
-use writing::answer::Written;
+use deck::answer::Read;
+use deck::answer::Written;
 ghost use mathlib.Core.Path.{_≡_};
 ghost use lib.ListN.{length};
 ghost use Rattle.io.specs.Counts.{Counts};
@@ -52,13 +52,13 @@ fn used(cells: &[u16]) -> usize
 // Reads a deck into the first entries of a table.
 fn read_into(deck: &[u8], length: usize, cells: &mut [u16]) -> Read {
     let n = lent::most(length, cells);
-    reading::deck::read(deck, &mut cells[..n])
+    reading::read::read(deck, &mut cells[..n])
 }
 
 // Writes a sheet into the first of the bytes.
 fn write_into(width: u16, height: u16, sheet: &[u16], length: usize, bytes: &mut [u8]) -> Written {
     let n = most_bytes(length, bytes);
-    writing::deck::write(width, height, sheet, &mut bytes[..n])
+    writing::write::write(width, height, sheet, &mut bytes[..n])
 }
 
 // Whether the sheet's deck, written again, is the deck.
@@ -114,8 +114,8 @@ pub(crate) fn read(line: &[u8], length: usize) {
 
 // The part of a card that holds its cells.
 fn show_part(width: u16, card: &[u8]) {
-    show::label(cards::card::part_refusal(width, card));
-    show::bytes(cards::card::part(width, card));
+    show::label(deck::card::part_refusal(width, card));
+    show::bytes(deck::card::part(width, card));
     show::line_end();
 }
 

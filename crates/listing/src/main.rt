@@ -3,12 +3,12 @@
 mod lines;
 mod text;
 
-use columns::card::LONG;
+use deck::answer::Read;
+use deck::card::LONG;
 use drawing::draw::Drawn;
 use libc::STDIN_FILENO;
 use plane::size;
-use reading::answer::Read;
-use reading::deck::CELLS;
+use reading::read::CELLS;
 use verdict::judge::Verdict;
 ghost use mathlib.Core.Path.{_≡_};
 ghost use mathlib.Core.Bool.{true};
@@ -175,7 +175,7 @@ fn list_sheet(width: u16, height: u16, cells: &[u16])
 // Lists the sheet of a deck, or says why the deck is refused.
 fn list_deck(deck: &[u8]) {
     let mut cells = [0u16; CELLS];
-    let answer = reading::deck::read(deck, &mut cells);
+    let answer = reading::read::read(deck, &mut cells);
     match answer {
         Read::Sheet { width, height } => list_sheet(width, height, &cells),
         Read::Refused { number, card } => lines::refused(number, card),

@@ -15,8 +15,9 @@ use Rattle.counts.specs.declared.count.Count.{Count}
 use Rattle.counts.proofs.count.Count.{the-type}
 use Rattle.drawing.specs.Answer.{left}
 use Rattle.counts.specs.Answer.{count, values, counted}
-use Rattle.reading.specs.declared.answer.Read.{Read}
-use Rattle.reading.specs.Reading.{readOutcome, reading}
+use Rattle.deck.specs.declared.answer.Read.{Read}
+use Rattle.deck.specs.Outcome.{readOutcome}
+use Rattle.reading.specs.Reading.{reading}
 use Rattle.reading.proofs.One.{refused-some}
 use Rattle.raimenolta.specs.Slot.{done, stopped, slotted, slottedTwice, carded}
 

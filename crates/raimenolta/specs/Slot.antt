@@ -10,7 +10,7 @@ use mathlib.Core.List.{List, [], _∷_, _++_}
 use Prim.Native.Nat.{ℕ}
 use lib.Dec.{eqb}
 use Rattle.paper.specs.Refusal.{Outcome}
-use Rattle.writing.specs.Outcome as deck
+use Rattle.deck.specs.Outcome as cards
 use Rattle.drawing.specs.Answer.{left}
 
 unfoldable pub done : Outcome → List ℕ → List ℕ
@@ -25,5 +25,5 @@ slotted o l = left (o .number) [] (o .tables ++ done o l ∷ []) (o .work)
 unfoldable pub slottedTwice : Outcome → List ℕ → List ℕ → Outcome
 slottedTwice o s k = left (o .number) [] (o .tables ++ done o s ∷ stopped o k ∷ []) (o .work)
 
-unfoldable pub carded : deck.Outcome → Outcome
+unfoldable pub carded : cards.Outcome → Outcome
 carded o = left (o .number) (o .values) (o .table ∷ []) []

@@ -1,8 +1,8 @@
 // Land decks: reading one, writing one, and the number for a row's card.
-use reading::answer::Read;
+use deck::answer::Read;
 ghost use mathlib.Core.Path.{_≡_};
 ghost use mathlib.Core.List.{[], _∷_};
-ghost use Rattle.cards.specs.Part.{partRefusal};
+ghost use Rattle.deck.specs.Card.{partRefusal};
 ghost use Rattle.reading.specs.Reading.{reading};
 ghost use Rattle.writing.specs.Writing.{writing};
 ghost use Rattle.drawing.specs.Answer.{left};
@@ -23,7 +23,7 @@ pub extern "C" fn raimenolta_read(
         slottedTwice (carded (reading (now (deck .entry)) (now (cells .entry)))) (now (size .entry)) (now (card .entry) ∷ [])
         ⌝ }
 {
-    match reading::deck::read(deck, cells) {
+    match reading::read::read(deck, cells) {
         Read::Sheet { width, height } => {
             *size = [width, height];
             0
@@ -45,7 +45,7 @@ pub extern "C" fn raimenolta_write(width: u16, height: u16, sheet: &[u16], deck:
         left r [] (now (deck .exit) ∷ []) [] ≡ carded (writing width height (now (sheet .entry)) (now (deck .entry)))
         ⌝ }
 {
-    let answer = writing::deck::write(width, height, sheet, deck);
+    let answer = writing::write::write(width, height, sheet, deck);
     answer.number()
 }
 
@@ -54,5 +54,5 @@ pub extern "C" fn raimenolta_write(width: u16, height: u16, sheet: &[u16], deck:
 pub extern "C" fn raimenolta_part_refusal(width: u16, card: &[u8]) -> u16
     ensures { λ r. ⌜ r ≡ partRefusal width (now (card .entry)) ⌝ }
 {
-    cards::card::part_refusal(width, card)
+    deck::card::part_refusal(width, card)
 }

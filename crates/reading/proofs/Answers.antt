@@ -10,15 +10,15 @@ use lib.Dec.{eqb}
 use lib.ListN.{length, take, drop, length-take}
 use borrow.Author.Tests.{eqb-true, eq-eqb, ne-eqb}
 use Rattle.plane.specs.Size.{within}
-use Rattle.reading.specs.declared.answer.Read.{Read}
-use Rattle.reading.specs.declared.answer.Read.the-variants.{Sheet, Refused}
-use Rattle.columns.specs.Card.{long}
-use Rattle.cards.specs.Part.{whole}
-use Rattle.reading.specs.Reading.{readOutcome, room, stopped, rows, judged, cells, filled, tableAfter, reading}
+use Rattle.deck.specs.declared.answer.Read.{Read}
+use Rattle.deck.specs.declared.answer.Read.the-variants.{Sheet, Refused}
+use Rattle.deck.specs.Card.{long, whole}
+use Rattle.deck.specs.Outcome.{readOutcome}
+use Rattle.reading.specs.Reading.{room, stopped, rows, judged, cells, filled, tableAfter, reading}
 use Rattle.columns.specs.Layout.{rowCards, held}
 use Rattle.cards.specs.Fault.{width, height, header, row}
 use Rattle.cards.proofs.Frames.{frame-none, header-frame, header-within, row-frame}
-use Rattle.cards.proofs.Parts.{whole-is}
+use Rattle.deck.proofs.Parts.{whole-is}
 
 -- A refusal stops the reading; none lets it go on.
 pub stopped-some : (m k : ℕ) (r : Read) → (m ≡ 0 → ⊥) → Refused m k ≡ stopped m k r

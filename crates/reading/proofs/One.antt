@@ -1,4 +1,4 @@
--- One sheet has one deck (the paper, "The deck"), and one answer has one outcome.
+-- One sheet has one deck (the paper, "The deck").
 --   Sound w h s     == the sheet s of width w and height h can stand on cards: the size is one, the length is that of
 --                      the size, and each label is 33 to 126
 use mathlib.Core.Path.{_≡_, refl, sym, ap, _∙_}
@@ -12,14 +12,12 @@ use lib.ListN.{length, take, drop, length-append, length-take, length-drop, take
 use lib.Seq.{take-at, drop-at, length-take-le}
 use borrow.Author.Tests.{eqb-true, eqb-false}
 use Rattle.plane.specs.Size.{within}
-use Rattle.reading.specs.declared.answer.Read.{Read}
-use Rattle.reading.specs.declared.answer.Read.the-variants as read
-use Rattle.writing.specs.declared.answer.Written.{Written}
-use Rattle.writing.specs.declared.answer.Written.the-variants as written
-use Rattle.columns.specs.Card.{columns, long, every, visible, card}
-use Rattle.cards.specs.Part.{part}
-use Rattle.writing.specs.Outcome.{Outcome, writeNumber, writeOutcome}
-use Rattle.reading.specs.Reading.{readOutcome, room, rows, judged, cells, filled, reading}
+use Rattle.deck.specs.declared.answer.Read.{Read}
+use Rattle.deck.specs.declared.answer.Read.the-variants as read
+use Rattle.deck.specs.declared.answer.Written.the-variants as written
+use Rattle.deck.specs.Card.{columns, long, every, visible, card, part}
+use Rattle.deck.specs.Outcome.{readOutcome, writeOutcome}
+use Rattle.reading.specs.Reading.{room, rows, judged, cells, filled, reading}
 use Rattle.columns.specs.Layout.{heading, rowCards, held}
 use Rattle.writing.specs.Writing.{rowDeck, deckOf, deckLength, written as answered, bytesAfter, writing}
 use Rattle.cards.specs.Fault.{row}
@@ -30,11 +28,12 @@ use Rattle.columns.proofs.Every.{every-take, every-drop, every-append}
 use Rattle.reading.proofs.Filling.{part-is, length-part, length-cells}
 use Rattle.columns.proofs.Headings.{heading-fits}
 use Rattle.cards.proofs.Frames.{row-none}
-use Rattle.cards.proofs.Parts.{held-measured, part-held}
+use Rattle.columns.proofs.Sizes.{held-measured, held-most, sum, sum-all}
+use Rattle.deck.proofs.Outcomes.{read-one, write-one}
+use Rattle.deck.proofs.Parts.{part-held}
 use Rattle.writing.proofs.Punching.{writing-done}
 use Rattle.cards.proofs.Rows.{card-whole, card-cells, card-row, row-card}
 use Rattle.cards.proofs.Rows.{heading-width, heading-height, heading-header, header-card}
-use Rattle.columns.proofs.Sizes.{held-most, sum, sum-all}
 
 pub record Sound (w h : ℕ) (s : List ℕ) : Type 0 where
   pub size : within w h ≡ true
@@ -161,44 +160,6 @@ module _ (w h : ℕ) (d : List ℕ) (e : judged d ≡ read.Sheet w h) where
       let head = header-card (take long d) (k .head) ∙ (λ i. card 1 (heading (k .wide i) (k .high i))) in
       sym (take-append-drop long d)
       ∙ (λ i. head i ++ rows-read w h (k .size) (rowCards w h) 2 w h (drop long d) (k .body) i)
-
--- One answer has one outcome: the number and the values tell the answer.
-pub read-one : (a b : Read) (t u : List ℕ) → readOutcome a t ≡ readOutcome b u → (a ≡ b) × (t ≡ u)
-unfolding readOutcome
-read-one (read.Sheet w h) (read.Sheet a b) t u e =
-    let v = ap (λ (o : Outcome). o .values) e in
-    (cc, ap (λ (o : Outcome). o .table) e)
-read-one (read.Sheet w h) (read.Refused n k) t u e =
-    let v = ap (λ (o : Outcome). o .values) e in
-    let z : _≡_ {A = ℕ} 0 1 = cc in
-    absurd (omega arith)
-read-one (read.Refused n k) (read.Sheet w h) t u e =
-    let v = ap (λ (o : Outcome). o .values) e in
-    let z : _≡_ {A = ℕ} 0 1 = cc in
-    absurd (omega arith)
-read-one (read.Refused n k) (read.Refused m j) t u e =
-    let v = ap (λ (o : Outcome). o .values) e in
-    let q = ap (λ (o : Outcome). o .number) e in
-    (cc, ap (λ (o : Outcome). o .table) e)
-
-told : ℕ → Written
-told n =
-    cond (eqb n 0) written.Done
-    (cond (eqb n 1) written.Size (cond (eqb n 3) written.Sheet (cond (eqb n 4) written.Deck written.Label)))
-
-told-number : (a : Written) → told (writeNumber a) ≡ a
-unfolding told
-told-number written.Done = refl
-told-number written.Size = refl
-told-number written.Sheet = refl
-told-number written.Deck = refl
-told-number written.Label = refl
-
-pub write-one : (a b : Written) (t u : List ℕ) → writeOutcome a t ≡ writeOutcome b u → (a ≡ b) × (t ≡ u)
-unfolding writeOutcome
-write-one a b t u e =
-    let n = ap (λ (o : Outcome). o .number) e in
-    (sym (told-number a) ∙ ap told n ∙ told-number b, ap (λ (o : Outcome). o .table) e)
 
 -- A reading that is done.
 module _ (w h : ℕ) (d t u : List ℕ) (e : reading d t ≡ readOutcome (read.Sheet w h) u) where

@@ -7,21 +7,18 @@
 --   cells w n k d   == the cells of the first n cards of d, k the first one's number
 --   filled l        == the cell table that begins with l and is 0 after it
 --   tableAfter r d t == what the cell table t holds after the answer r to the bytes d
---   readOutcome r t == what the answer r says, with the table t: of a sheet the width and the height, of a refusal its
---                      number and the card's
 --   reading d t     == the outcome of reading the bytes d into the cell table t
 use mathlib.Core.Bool.{cond}
-use mathlib.Core.List.{List, [], _∷_, _++_}
+use mathlib.Core.List.{List, [], _++_}
 use Prim.Native.Nat.{ℕ, zero, suc, _-_}
 use lib.Dec.{eqb}
 use lib.ListN.{length, take, drop, replicate}
-use Rattle.columns.specs.Card.{long}
+use Rattle.deck.specs.Card.{long, part}
 use Rattle.columns.specs.Layout.{rowCards, held}
-use Rattle.cards.specs.Part.{part}
 use Rattle.cards.specs.Fault.{width, height, header, row}
-use Rattle.writing.specs.Outcome.{Outcome}
-use Rattle.reading.specs.declared.answer.Read.{Read}
-use Rattle.reading.specs.declared.answer.Read.the-variants.{Sheet, Refused}
+use Rattle.deck.specs.Outcome.{Outcome, readOutcome}
+use Rattle.deck.specs.declared.answer.Read.{Read}
+use Rattle.deck.specs.declared.answer.Read.the-variants.{Sheet, Refused}
 
 unfoldable pub room : ℕ
 room = 5184
@@ -50,10 +47,6 @@ filled l = l ++ replicate (room - length l) 0
 unfoldable pub tableAfter : Read → List ℕ → List ℕ → List ℕ
 tableAfter (Sheet w h) d t = filled (cells w (rowCards w h) 2 (drop long d))
 tableAfter (Refused n k) d t = t
-
-unfoldable pub readOutcome : Read → List ℕ → Outcome
-readOutcome (Sheet w h) t = record { number = 0; values = w ∷ h ∷ []; table = t }
-readOutcome (Refused n k) t = record { number = n; values = k ∷ []; table = t }
 
 unfoldable pub reading : List ℕ → List ℕ → Outcome
 reading d t =

@@ -1,13 +1,13 @@
-use crate::answer::Read;
 use cards::header;
 use cards::row;
-use columns::card::LONG;
 use columns::layout;
+use deck::answer::Read;
+use deck::card::LONG;
 ghost use mathlib.Core.Path.{_≡_};
 ghost use mathlib.Core.Bool.{true};
 ghost use lib.ListN.{take};
 ghost use Rattle.plane.specs.Size.{within};
-ghost use Rattle.columns.specs.Card.{long};
+ghost use Rattle.deck.specs.Card.{long};
 ghost use Rattle.columns.specs.Layout.{rowCards};
 ghost use Rattle.reading.specs.Reading.{rows, judged};
 

@@ -1,4 +1,3 @@
 // Reading a deck: the cards judged one by one, and the cells of a sheet copied into a table. One sheet has one deck.
-pub mod answer;
-pub mod deck;
 mod judge;
+pub mod read;

@@ -13,9 +13,9 @@ use lib.ListN.{length, getD, take, drop, length-append, length-drop}
 use lib.Seq.{length-take-le, take-all, take-at, drop-drop}
 use borrow.Author.Tests.{eq-eqb, ne-eqb}
 use Rattle.plane.specs.Size.{within}
-use Rattle.columns.specs.Card.{columns, long, every, visible, card}
-use Rattle.writing.specs.declared.answer.Written.the-variants.{Done, Size, Sheet, Deck, Label}
-use Rattle.writing.specs.Outcome.{writeOutcome}
+use Rattle.deck.specs.Card.{columns, long, every, visible, card}
+use Rattle.deck.specs.declared.answer.Written.the-variants.{Done, Size, Sheet, Deck, Label}
+use Rattle.deck.specs.Outcome.{writeOutcome}
 use Rattle.columns.specs.Layout.{heading, rowCards, held}
 use Rattle.writing.specs.Writing.{rowDeck, deckOf, deckLength, written, bytesAfter, writing}
 use Rattle.columns.proofs.Cards.{length-card}

@@ -11,11 +11,11 @@ use Prim.Native.Nat.{ℕ, zero, suc, _+_, _*_}
 use lib.Dec.{eqb}
 use lib.ListN.{length, take, drop}
 use Rattle.plane.specs.Size.{within}
-use Rattle.writing.specs.declared.answer.Written.{Written}
-use Rattle.writing.specs.declared.answer.Written.the-variants.{Done, Size, Sheet, Deck, Label}
-use Rattle.columns.specs.Card.{long, every, visible, card}
+use Rattle.deck.specs.declared.answer.Written.{Written}
+use Rattle.deck.specs.declared.answer.Written.the-variants.{Done, Size, Sheet, Deck, Label}
+use Rattle.deck.specs.Card.{long, every, visible, card}
 use Rattle.columns.specs.Layout.{heading, rowCards, held}
-use Rattle.writing.specs.Outcome.{Outcome, writeOutcome}
+use Rattle.deck.specs.Outcome.{Outcome, writeOutcome}
 
 unfoldable pub rowDeck : ℕ → ℕ → ℕ → List ℕ → List ℕ
 rowDeck w zero k s = []

@@ -1,3 +1,2 @@
 // Writing the deck of a sheet.
-pub mod answer;
-pub mod deck;
+pub mod write;

@@ -3,7 +3,7 @@ use Prim.Native.Nat.{_+_, _-_, _≤_, _<_}
 use native.Mathlib.Omega.{arith}
 use lib.ListN.{length}
 use lib.Seq.{slice}
-use Rattle.columns.specs.Card.{long, same, card}
+use Rattle.deck.specs.Card.{long, same, card}
 use Rattle.columns.proofs.Cards.{length-card}
 use Rattle.columns.proofs.Every.{same-stop, same-go, same-end}
 use Rattle.columns.proofs.bytes.agrees.Statement.{statement}

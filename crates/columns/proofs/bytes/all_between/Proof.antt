@@ -2,7 +2,7 @@ use mathlib.Core.Path.{_≡_, refl, sym, _∙_}
 use Prim.Native.Nat.{_-_}
 use native.Mathlib.Omega.{arith}
 use lib.ListN.{length, drop}
-use Rattle.columns.specs.Card.{every, between}
+use Rattle.deck.specs.Card.{every, between}
 use Rattle.columns.proofs.Every.{between-below, between-above, between-inside, every-stop, every-go, every-end}
 use Rattle.columns.proofs.bytes.all_between.Statement.{statement}
 use Rattle.columns.proofs.bytes.all_between.Tie as tie

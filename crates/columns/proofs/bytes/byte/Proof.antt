@@ -1,7 +1,7 @@
 use mathlib.Core.Path.{sym, _∙_}
 use native.Mathlib.Omega.{arith}
 use borrow.Author.Needs.{needs}
-use Rattle.columns.specs.Card.{columns, places, long, blank, feed}
+use Rattle.deck.specs.Card.{columns, places, long, blank, feed}
 use Rattle.columns.proofs.Cards.{card-content, card-blank, card-digit, card-feed}
 use Rattle.columns.proofs.bytes.byte.Statement.{statement}
 use Rattle.columns.proofs.bytes.byte.Tie as tie

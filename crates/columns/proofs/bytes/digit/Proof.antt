@@ -1,7 +1,7 @@
 use mathlib.Core.Path.{_≡_, refl, _∙_}
 use Prim.Native.Nat.{ℕ, _≤_}
 use native.Mathlib.Omega.{arith}
-use Rattle.columns.specs.Card.{digit}
+use Rattle.deck.specs.Card.{digit}
 use Rattle.columns.proofs.Cards.{digit-less}
 use Rattle.columns.proofs.bytes.digit.Statement.{statement}
 use Rattle.columns.proofs.bytes.digit.Tie as tie

@@ -2,7 +2,7 @@ use mathlib.Core.Path.{_≡_, refl, sym, _∙_}
 use Prim.Native.Nat.{_-_, _≤_, _<_}
 use native.Mathlib.Omega.{arith}
 use lib.ListN.{length, take, length-set}
-use Rattle.columns.specs.Card.{long, card}
+use Rattle.deck.specs.Card.{long, card}
 use Rattle.columns.proofs.Cards.{length-card}
 use Rattle.columns.proofs.Table.{fill-more, fill-end}
 use Rattle.columns.proofs.bytes.put.Statement.{statement}

@@ -1,5 +1,5 @@
 use borrow.Author.Needs.{needs}
-use Rattle.columns.specs.Card.{blank, digits}
+use Rattle.deck.specs.Card.{blank, digits}
 use Rattle.columns.specs.Layout.{heading}
 use Rattle.columns.proofs.layout.heading.Statement.{statement}
 use Rattle.columns.proofs.layout.heading.Tie as tie

@@ -1,7 +1,7 @@
 use mathlib.Core.Path.{_≡_, sym, _∙_}
 use lib.ListN.{take}
 use borrow.Author.Needs.{needs}
-use Rattle.columns.specs.Card.{columns, places, long}
+use Rattle.deck.specs.Card.{columns, places, long}
 use Rattle.cards.specs.Fault.{header}
 use Rattle.reading.proofs.Answers.{judged-stop, judged-go, header-whole}
 use Rattle.cards.proofs.Frames.{header-within}

@@ -3,7 +3,7 @@ use Prim.Native.Nat.{_≤_}
 use lib.ListN.{length}
 use native.Mathlib.Omega.{arith}
 use lib.Seq.{take-all, length-take-le}
-use Rattle.columns.specs.Card.{columns, places, long}
+use Rattle.deck.specs.Card.{columns, places, long}
 use Rattle.reading.proofs.judge.next.Statement.{statement}
 use Rattle.reading.proofs.judge.next.Tie as tie
 

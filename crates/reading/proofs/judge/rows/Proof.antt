@@ -3,13 +3,12 @@ use Prim.Native.Nat.{_+_, _-_, _≤_}
 use native.Mathlib.Nat.{le-refl}
 use native.Mathlib.Omega.{arith}
 use lib.ListN.{length, take}
-use Rattle.columns.specs.Card.{columns, places, long}
+use Rattle.deck.specs.Card.{columns, places, long}
 use Rattle.columns.specs.Layout.{rowCards, held}
 use Rattle.cards.specs.Fault.{row}
 use Rattle.reading.specs.Reading.{rows}
 use Rattle.reading.proofs.Answers.{rows-stop, rows-go, rows-surplus, rows-end, row-whole}
-use Rattle.cards.proofs.Parts.{held-measured}
-use Rattle.columns.proofs.Sizes.{cards-few}
+use Rattle.columns.proofs.Sizes.{held-measured, cards-few}
 use Rattle.columns.proofs.Table.{rest-all}
 use Rattle.reading.proofs.judge.rows.Statement.{statement}
 use Rattle.reading.proofs.judge.rows.Tie as tie

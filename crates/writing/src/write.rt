@@ -1,0 +1,93 @@
+use columns::bytes;
+use columns::layout;
+use deck::answer::Written;
+use deck::card;
+use deck::card::LONG;
+use plane::size;
+ghost use mathlib.Core.Path.{_≡_};
+ghost use mathlib.Core.Bool.{true};
+ghost use mathlib.Core.List.{_++_};
+ghost use Prim.Native.Nat.{_*_, _≤_};
+ghost use lib.ListN.{length, take, drop};
+ghost use Rattle.plane.specs.Size.{within};
+ghost use Rattle.deck.specs.Card.{every, visible, long, card};
+ghost use Rattle.deck.specs.Outcome.{writeOutcome};
+ghost use Rattle.columns.specs.Layout.{heading, rowCards};
+ghost use Rattle.writing.specs.Writing.{rowDeck, deckLength, writing};
+
+const LOWEST: u16 = card::LOWEST as u16;
+
+const HIGHEST: u16 = card::HIGHEST as u16;
+
+// Whether each label may stand on a card: 33 to 126.
+fn visible(sheet: &[u16]) -> bool
+    ensures { λ r. ⌜ r ≡ every visible (now (sheet .entry)) ⌝ }
+{
+    let mut i = 0;
+    while i < sheet.len() {
+        if sheet[i] < LOWEST {
+            return false;
+        }
+        if HIGHEST < sheet[i] {
+            return false;
+        }
+        i += 1;
+    }
+    true
+}
+
+// Writes the header's card.
+fn put_header(width: u16, height: u16, deck: &mut [u8])
+    requires { ⌜ long ≤ length (now deck) ⌝ }
+    ensures { λ _. ⌜ now (deck .exit) ≡ card 1 (heading width height) ++ drop long (now (deck .entry)) ⌝ }
+{
+    let content = layout::heading(width, height);
+    bytes::put(&mut deck[..LONG], &content, 1);
+}
+
+// Writes the cards of the rows, after the header's card.
+fn put_rows(width: u16, height: u16, sheet: &[u16], deck: &mut [u8])
+    requires { ⌜ within width height ≡ true ⌝ }
+    requires { ⌜ length (now sheet) ≡ width * height ⌝ }
+    requires { ⌜ length (now deck) ≡ deckLength width height ⌝ }
+    requires { ⌜ every visible (now sheet) ≡ true ⌝ }
+    ensures { λ _. ⌜ now (deck .exit)
+        ≡ take long (now (deck .entry)) ++ rowDeck width (rowCards width height) 2 (now (sheet .entry)) ⌝ }
+{
+    let mut rest = sheet;
+    let mut left = layout::row_cards(width, height);
+    let mut number: u16 = 2;
+    let mut at = LONG;
+    while 0 < left {
+        let held = layout::held(width, number) as usize;
+        let next = at + LONG;
+        bytes::put(&mut deck[at..next], &rest[..held], number);
+        rest = &rest[held..];
+        left = left - 1;
+        number = number + 1;
+        at = next;
+    }
+}
+
+// Writes the deck of a sheet. Refusals: 1 where the width or the height is not 1 to the greatest, 3 where the sheet's length
+// is not the width times the height, 4 where the deck's length is not that of the sheet's deck, 27 where a label is not 33
+// to 126. A refusal leaves the bytes as they were.
+pub fn write(width: u16, height: u16, sheet: &[u16], deck: &mut [u8]) -> Written
+    ensures { λ r. ⌜ writeOutcome r (now (deck .exit)) ≡ writing width height (now (sheet .entry)) (now (deck .entry)) ⌝ }
+{
+    if !size::within(width, height) {
+        return Written::Size;
+    }
+    if sheet.len() != (width * height) as usize {
+        return Written::Sheet;
+    }
+    if deck.len() != LONG * (layout::row_cards(width, height) as usize + 1) {
+        return Written::Deck;
+    }
+    if !visible(sheet) {
+        return Written::Label;
+    }
+    put_header(width, height, deck);
+    put_rows(width, height, sheet, deck);
+    Written::Done
+}
