@@ -3,19 +3,19 @@
 --   header, row     == those of a header and of a row's card
 use mathlib.Core.Path.{_≡_, refl, sym, _∙_}
 use mathlib.Core.Bool.{Bool, true, false, cond, _&&_}
-use mathlib.Core.List.{List, [], _∷_, _++_}
-use Prim.Native.Nat.{ℕ, zero, suc, _+_, _≤_, _<_}
+use mathlib.Core.List.{List, []}
+use Prim.Native.Nat.{ℕ, zero, suc, _+_}
 use native.Mathlib.Omega.{arith}
-use lib.Dec.{T, eqb, ltb, lit<}
-use lib.ListN.{length, getD, take}
+use lib.Dec.{eqb}
+use lib.ListN.{length, take}
 use lib.Seq.{slice}
+use Rattle.laws.proofs.Test.{and-left}
 use Rattle.plane.specs.Size.{within}
-use Rattle.deck.specs.Card.{columns, places, blank, every, same, between, visible, digit, digits, card, whole}
+use Rattle.deck.specs.Card.{columns, places, blank, every, same, between, visible, card, whole}
 use Rattle.columns.specs.Layout.{heading}
-use Rattle.cards.specs.Fault.{first, numbered, frame, width, height, headed, header, row}
 use Rattle.columns.proofs.Cards.{card-columns, card-number}
 use Rattle.columns.proofs.Headings.{heading-fits}
-use Rattle.laws.proofs.Test.{and-left}
+use Rattle.cards.specs.Fault.{first, numbered, frame, width, height, headed, header, row}
 
 -- The first of two refusals.
 pub first-some : (a b : ℕ) → (a ≡ 0 → ⊥) → a ≡ first a b

@@ -9,18 +9,18 @@ use lib.Dec.{lit<}
 use lib.ListN.{length, getD, take, drop, replicate, length-drop, take-append-drop, drop-of-length-le}
 use lib.Seq.{slice, take-at, drop-at, length-take-le, drop-cons, take-take}
 use borrow.Author.Tests.{ne-eqb}
+use Rattle.laws.proofs.Test.{and-right}
 use Rattle.plane.specs.Size.{within}
+use Rattle.plane.proofs.Limit.{within-limits}
 use Rattle.deck.specs.Card.{columns, places, long, blank, feed, every, same, visible, digit, digits, padded, card}
 use Rattle.deck.specs.Card.{whole}
+use Rattle.deck.proofs.Parts.{is-whole, whole-is}
 use Rattle.columns.specs.Layout.{heading}
-use Rattle.cards.specs.Fault.{numbered, frame, value, width, height, headed, header, row}
 use Rattle.columns.proofs.Cards.{length-card, card-content, card-feed, card-columns, card-number}
-use Rattle.laws.proofs.Test.{and-right}
 use Rattle.columns.proofs.Every.{same-refl, same-true, every-blank, every-blanks}
 use Rattle.columns.proofs.Headings.{length-heading, heading-fits}
+use Rattle.cards.specs.Fault.{numbered, frame, value, width, height, headed, header, row}
 use Rattle.cards.proofs.Frames.{header-is, header-frame, header-headed, row-is, row-none, frame-none}
-use Rattle.deck.proofs.Parts.{is-whole, whole-is}
-use Rattle.plane.proofs.Limit.{within-limits}
 
 -- A card with a content that fits it.
 module _ (k : ℕ) (c : List ℕ) (fits : length c ≤ columns) where

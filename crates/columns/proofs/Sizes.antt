@@ -9,8 +9,8 @@ use native.Mathlib.Omega.{arith}
 use Rattle.plane.specs.Size.{within}
 use Rattle.plane.proofs.Limit.{within-limits}
 use Rattle.deck.specs.Card.{columns, measured}
-use Rattle.columns.specs.Layout.{rowCards, held}
 use Rattle.deck.proofs.Parts.{is-measured}
+use Rattle.columns.specs.Layout.{rowCards, held}
 
 module _ (w h : ℕ) (e : within w h ≡ true) where
   -- each card has a cell, and can hold its cells

@@ -68,7 +68,7 @@ module _ (w : ℕ) (c : List ℕ) where
   pub part-given : partRefusal w c ≡ 0 → part w c ≡ take w c
   part-given e = let p = refusal-none e in part-held (p .0) (p .1)
 
-  -- the part is as long as the width, and so within the columns of content
+  -- the card is at least as long as the width, and the part as long
   pub part-long : partRefusal w c ≡ 0 → w ≤ length c
   unfolding long
   part-long e =
@@ -80,6 +80,14 @@ module _ (w : ℕ) (c : List ℕ) where
   pub part-length : partRefusal w c ≡ 0 → length (part w c) ≡ w
   part-length e = ap length (part-given e) ∙ length-take-le w c (part-long e)
 
+  -- a part that is given is not empty
+  pub part-some : partRefusal w c ≡ 0 → part w c ≡ [] → ⊥
+  part-some e q =
+      let m = measured-is w (refusal-none e .0) .some in
+      let n = sym (part-length e) ∙ ap length q in
+      omega arith
+
+  -- a part that is refused is empty
   pub part-refused : (partRefusal w c ≡ 0 → ⊥) → part w c ≡ []
   unfolding partRefusal part
   part-refused n = go (measured w) (whole c) n

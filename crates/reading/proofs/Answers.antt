@@ -14,11 +14,11 @@ use Rattle.deck.specs.declared.answer.Read.{Read}
 use Rattle.deck.specs.declared.answer.Read.the-variants.{Sheet, Refused}
 use Rattle.deck.specs.Card.{long, whole}
 use Rattle.deck.specs.Outcome.{readOutcome}
-use Rattle.reading.specs.Reading.{room, stopped, rows, judged, cells, filled, tableAfter, reading}
+use Rattle.deck.proofs.Parts.{whole-is}
 use Rattle.columns.specs.Layout.{rowCards, held}
 use Rattle.cards.specs.Fault.{width, height, header, row}
 use Rattle.cards.proofs.Frames.{frame-none, header-frame, header-within, row-frame}
-use Rattle.deck.proofs.Parts.{whole-is}
+use Rattle.reading.specs.Reading.{room, stopped, rows, judged, cells, filled, tableAfter, reading}
 
 -- A refusal stops the reading; none lets it go on.
 pub stopped-some : (m k : ℕ) (r : Read) → (m ≡ 0 → ⊥) → Refused m k ≡ stopped m k r

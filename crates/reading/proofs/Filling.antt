@@ -11,17 +11,17 @@ use native.Mathlib.Omega.{arith}
 use lib.ListN.{length, getD, take, drop, replicate, length-append, length-replicate, getD-replicate}
 use lib.Seq.{paste, length-paste, take-at, take-paste, take-length, length-take-le}
 use Rattle.plane.specs.Size.{within}
+use Rattle.plane.proofs.Fit.{cells-fit}
 use Rattle.deck.specs.declared.answer.Read.the-variants.{Sheet}
 use Rattle.deck.specs.Card.{long, part}
-use Rattle.columns.specs.Layout.{rowCards, held}
-use Rattle.reading.specs.Reading.{room, rows, cells, filled}
-use Rattle.cards.specs.Fault.{row}
-use Rattle.reading.proofs.Answers.{rows-next, row-whole}
-use Rattle.cards.proofs.Frames.{frame-none, row-frame}
-use Rattle.columns.proofs.Sizes.{held-measured, held-most, sum, sum-all}
 use Rattle.deck.proofs.Parts.{whole-is, part-held}
-use Rattle.plane.proofs.Fit.{cells-fit}
+use Rattle.columns.specs.Layout.{rowCards, held}
+use Rattle.columns.proofs.Sizes.{held-measured, held-most, sum, sum-all}
 use Rattle.columns.proofs.Table.{getD-past}
+use Rattle.cards.specs.Fault.{row}
+use Rattle.cards.proofs.Frames.{frame-none, row-frame}
+use Rattle.reading.specs.Reading.{room, rows, cells, filled}
+use Rattle.reading.proofs.Answers.{rows-next, row-whole}
 
 -- Cards of a sheet of width w and height h, k the number of the first.
 module _ (w h : ℕ) (size : within w h ≡ true) where

@@ -17,23 +17,23 @@ use Rattle.deck.specs.declared.answer.Read.the-variants as read
 use Rattle.deck.specs.declared.answer.Written.the-variants as written
 use Rattle.deck.specs.Card.{columns, long, every, visible, card, part}
 use Rattle.deck.specs.Outcome.{readOutcome, writeOutcome}
-use Rattle.reading.specs.Reading.{room, rows, judged, cells, filled, reading}
-use Rattle.columns.specs.Layout.{heading, rowCards, held}
-use Rattle.writing.specs.Writing.{rowDeck, deckOf, deckLength, written as answered, bytesAfter, writing}
-use Rattle.cards.specs.Fault.{row}
-use Rattle.reading.proofs.Answers.{stopped-none, rows-done, rows-next, Deck, judged-sheet}
-use Rattle.reading.proofs.Answers.{judged-go, judged-refused, reading-table, reading-refused, reading-sheet}
-use Rattle.columns.proofs.Cards.{length-card}
-use Rattle.columns.proofs.Every.{every-take, every-drop, every-append}
-use Rattle.reading.proofs.Filling.{part-is, length-part, length-cells}
-use Rattle.columns.proofs.Headings.{heading-fits}
-use Rattle.cards.proofs.Frames.{row-none}
-use Rattle.columns.proofs.Sizes.{held-measured, held-most, sum, sum-all}
 use Rattle.deck.proofs.Outcomes.{read-one, write-one}
 use Rattle.deck.proofs.Parts.{part-held}
-use Rattle.writing.proofs.Punching.{writing-done}
+use Rattle.columns.specs.Layout.{heading, rowCards, held}
+use Rattle.columns.proofs.Cards.{length-card}
+use Rattle.columns.proofs.Every.{every-take, every-drop, every-append}
+use Rattle.columns.proofs.Headings.{heading-fits}
+use Rattle.columns.proofs.Sizes.{held-measured, held-most, sum, sum-all}
+use Rattle.cards.specs.Fault.{row}
+use Rattle.cards.proofs.Frames.{row-none}
 use Rattle.cards.proofs.Rows.{card-whole, card-cells, card-row, row-card}
 use Rattle.cards.proofs.Rows.{heading-width, heading-height, heading-header, header-card}
+use Rattle.writing.specs.Writing.{rowDeck, deckOf, deckLength, written as answered, bytesAfter, writing}
+use Rattle.writing.proofs.Punching.{writing-done}
+use Rattle.reading.specs.Reading.{room, rows, judged, cells, filled, reading}
+use Rattle.reading.proofs.Answers.{stopped-none, rows-done, rows-next, Deck, judged-sheet}
+use Rattle.reading.proofs.Answers.{judged-go, judged-refused, reading-table, reading-refused, reading-sheet}
+use Rattle.reading.proofs.Filling.{part-is, length-part, length-cells}
 
 pub record Sound (w h : ℕ) (s : List ℕ) : Type 0 where
   pub size : within w h ≡ true

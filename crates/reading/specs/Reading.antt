@@ -13,12 +13,12 @@ use mathlib.Core.List.{List, [], _++_}
 use Prim.Native.Nat.{ℕ, zero, suc, _-_}
 use lib.Dec.{eqb}
 use lib.ListN.{length, take, drop, replicate}
-use Rattle.deck.specs.Card.{long, part}
-use Rattle.columns.specs.Layout.{rowCards, held}
-use Rattle.cards.specs.Fault.{width, height, header, row}
-use Rattle.deck.specs.Outcome.{Outcome, readOutcome}
 use Rattle.deck.specs.declared.answer.Read.{Read}
 use Rattle.deck.specs.declared.answer.Read.the-variants.{Sheet, Refused}
+use Rattle.deck.specs.Card.{long, part}
+use Rattle.deck.specs.Outcome.{Outcome, readOutcome}
+use Rattle.columns.specs.Layout.{rowCards, held}
+use Rattle.cards.specs.Fault.{width, height, header, row}
 
 unfoldable pub room : ℕ
 room = 5184

@@ -10,8 +10,8 @@ ghost use lib.ListN.{length, take, drop, replicate};
 ghost use lib.Seq.{paste};
 ghost use Rattle.deck.specs.Card.{long};
 ghost use Rattle.deck.specs.Outcome.{readOutcome};
-ghost use Rattle.reading.specs.Reading.{room, judged, cells, filled, reading};
 ghost use Rattle.columns.specs.Layout.{rowCards};
+ghost use Rattle.reading.specs.Reading.{room, judged, cells, filled, reading};
 
 // The length of the reader's cell table.
 pub const CELLS: usize = 5184;

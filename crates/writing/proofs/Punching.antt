@@ -13,15 +13,15 @@ use lib.ListN.{length, getD, take, drop, length-append, length-drop}
 use lib.Seq.{length-take-le, take-all, take-at, drop-drop}
 use borrow.Author.Tests.{eq-eqb, ne-eqb}
 use Rattle.plane.specs.Size.{within}
-use Rattle.deck.specs.Card.{columns, long, every, visible, card}
 use Rattle.deck.specs.declared.answer.Written.the-variants.{Done, Size, Sheet, Deck, Label}
+use Rattle.deck.specs.Card.{columns, long, every, visible, card}
 use Rattle.deck.specs.Outcome.{writeOutcome}
 use Rattle.columns.specs.Layout.{heading, rowCards, held}
-use Rattle.writing.specs.Writing.{rowDeck, deckOf, deckLength, written, bytesAfter, writing}
 use Rattle.columns.proofs.Cards.{length-card}
 use Rattle.columns.proofs.Every.{every-take, every-drop, labels-bytes}
 use Rattle.columns.proofs.Headings.{heading-fits}
 use Rattle.columns.proofs.Sizes.{held-most, sum, sum-all}
+use Rattle.writing.specs.Writing.{rowDeck, deckOf, deckLength, written, bytesAfter, writing}
 
 -- n cards are left, k the next one's number; rest are the cells that are left; the bytes before at are written.
 pub record Punching (w h : ℕ) (goal deck rest : List ℕ) (n k at : ℕ) : Type 0 where

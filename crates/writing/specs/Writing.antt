@@ -14,8 +14,8 @@ use Rattle.plane.specs.Size.{within}
 use Rattle.deck.specs.declared.answer.Written.{Written}
 use Rattle.deck.specs.declared.answer.Written.the-variants.{Done, Size, Sheet, Deck, Label}
 use Rattle.deck.specs.Card.{long, every, visible, card}
-use Rattle.columns.specs.Layout.{heading, rowCards, held}
 use Rattle.deck.specs.Outcome.{Outcome, writeOutcome}
+use Rattle.columns.specs.Layout.{heading, rowCards, held}
 
 unfoldable pub rowDeck : ℕ → ℕ → ℕ → List ℕ → List ℕ
 rowDeck w zero k s = []

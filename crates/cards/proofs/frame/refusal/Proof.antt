@@ -4,9 +4,9 @@ use native.Mathlib.Omega.{arith}
 use borrow.Author.Needs.{needs}
 use borrow.Author.Tests.{eq-eqb, ne-eqb, not-true, not-false}
 use Rattle.deck.specs.Card.{columns, places, long}
+use Rattle.deck.proofs.Parts.{whole-is}
 use Rattle.cards.specs.Fault.{frame}
 use Rattle.cards.proofs.Frames.{numbered-is}
-use Rattle.deck.proofs.Parts.{whole-is}
 use Rattle.cards.proofs.frame.refusal.Statement.{statement}
 use Rattle.cards.proofs.frame.refusal.Tie as tie
 

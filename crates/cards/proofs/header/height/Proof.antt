@@ -1,5 +1,5 @@
-use Rattle.cards.specs.Fault.{height}
 use borrow.Author.Needs.{needs}
+use Rattle.cards.specs.Fault.{height}
 use Rattle.cards.proofs.header.height.Statement.{statement}
 use Rattle.cards.proofs.header.height.Tie as tie
 

@@ -4,10 +4,10 @@ use native.Mathlib.Omega.{arith}
 use borrow.Author.Needs.{needs}
 use borrow.Author.Tests.{not-true, not-false}
 use Rattle.deck.specs.Card.{columns, places, long}
-use Rattle.cards.specs.Fault.{header}
-use Rattle.columns.proofs.Headings.{heading-fits, heading-bytes}
-use Rattle.cards.proofs.Frames.{headed-is, header-framed, header-is, frame-none}
 use Rattle.deck.proofs.Parts.{whole-is}
+use Rattle.columns.proofs.Headings.{heading-fits, heading-bytes}
+use Rattle.cards.specs.Fault.{header}
+use Rattle.cards.proofs.Frames.{headed-is, header-framed, header-is, frame-none}
 use Rattle.cards.proofs.header.refusal.Statement.{statement}
 use Rattle.cards.proofs.header.refusal.Tie as tie
 

@@ -1,5 +1,5 @@
-use Rattle.cards.specs.Fault.{value}
 use borrow.Author.Needs.{needs}
+use Rattle.cards.specs.Fault.{value}
 use Rattle.cards.proofs.header.value.Statement.{statement}
 use Rattle.cards.proofs.header.value.Tie as tie
 

@@ -1,5 +1,5 @@
-use Rattle.cards.specs.Fault.{width}
 use borrow.Author.Needs.{needs}
+use Rattle.cards.specs.Fault.{width}
 use Rattle.cards.proofs.header.width.Statement.{statement}
 use Rattle.cards.proofs.header.width.Tie as tie
 

@@ -5,10 +5,10 @@ use borrow.Author.Needs.{needs}
 use borrow.Author.Tests.{not-true, not-false}
 use lib.Seq.{slice}
 use Rattle.deck.specs.Card.{columns, places, long, blank, lowest, highest, visible, every, between}
-use Rattle.cards.specs.Fault.{row}
-use Rattle.cards.proofs.Frames.{row-framed, row-is, frame-none}
 use Rattle.deck.proofs.Parts.{measured-is, part-held, whole-is}
 use Rattle.columns.proofs.Table.{part-slice}
+use Rattle.cards.specs.Fault.{row}
+use Rattle.cards.proofs.Frames.{row-framed, row-is, frame-none}
 use Rattle.cards.proofs.row.refusal.Statement.{statement}
 use Rattle.cards.proofs.row.refusal.Tie as tie
 

@@ -2,10 +2,10 @@ use mathlib.Core.Path.{_≡_, sym, _∙_}
 use lib.ListN.{take}
 use borrow.Author.Needs.{needs}
 use Rattle.deck.specs.Card.{columns, places, long}
-use Rattle.cards.specs.Fault.{header}
-use Rattle.reading.proofs.Answers.{judged-stop, judged-go, header-whole}
-use Rattle.cards.proofs.Frames.{header-within}
 use Rattle.columns.proofs.Table.{rest-all}
+use Rattle.cards.specs.Fault.{header}
+use Rattle.cards.proofs.Frames.{header-within}
+use Rattle.reading.proofs.Answers.{judged-stop, judged-go, header-whole}
 use Rattle.reading.proofs.judge.judged.Statement.{statement}
 use Rattle.reading.proofs.judge.judged.Tie as tie
 

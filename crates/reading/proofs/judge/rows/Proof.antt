@@ -5,11 +5,11 @@ use native.Mathlib.Omega.{arith}
 use lib.ListN.{length, take}
 use Rattle.deck.specs.Card.{columns, places, long}
 use Rattle.columns.specs.Layout.{rowCards, held}
+use Rattle.columns.proofs.Sizes.{held-measured, cards-few}
+use Rattle.columns.proofs.Table.{rest-all}
 use Rattle.cards.specs.Fault.{row}
 use Rattle.reading.specs.Reading.{rows}
 use Rattle.reading.proofs.Answers.{rows-stop, rows-go, rows-surplus, rows-end, row-whole}
-use Rattle.columns.proofs.Sizes.{held-measured, cards-few}
-use Rattle.columns.proofs.Table.{rest-all}
 use Rattle.reading.proofs.judge.rows.Statement.{statement}
 use Rattle.reading.proofs.judge.rows.Tie as tie
 

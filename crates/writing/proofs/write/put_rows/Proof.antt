@@ -8,11 +8,11 @@ use lib.Seq.{length-take-le}
 use borrow.Author.Needs.{needs}
 use Rattle.deck.specs.Card.{columns, places, long, card}
 use Rattle.columns.specs.Layout.{rowCards, held}
+use Rattle.columns.proofs.Sizes.{cards-few}
+use Rattle.columns.proofs.Table.{rest-all}
 use Rattle.writing.specs.Writing.{rowDeck}
 use Rattle.writing.proofs.Punching.{Punching, punching-none, punching-cells, punching-room, punching-content}
 use Rattle.writing.proofs.Punching.{punching-turn, punching-end, middle, length-middle}
-use Rattle.columns.proofs.Sizes.{cards-few}
-use Rattle.columns.proofs.Table.{rest-all}
 use Rattle.writing.proofs.write.put_rows.Statement.{statement}
 use Rattle.writing.proofs.write.put_rows.Tie as tie
 

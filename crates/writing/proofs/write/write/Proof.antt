@@ -6,11 +6,11 @@ use lib.ListN.{length}
 use borrow.Author.Needs.{needs}
 use borrow.Author.Tests.{not-true, not-false}
 use Rattle.plane.specs.Size.{within}
+use Rattle.plane.proofs.Fit.{cells-fit}
 use Rattle.deck.specs.Card.{columns, places, long, every, visible}
 use Rattle.writing.specs.Writing.{deckLength}
 use Rattle.writing.proofs.Punching.{writing-size, writing-sheet, writing-deck, writing-label}
 use Rattle.writing.proofs.Punching.{writing-done, deck-some, deck-whole}
-use Rattle.plane.proofs.Fit.{cells-fit}
 use Rattle.writing.proofs.write.write.Statement.{statement}
 use Rattle.writing.proofs.write.write.Tie as tie
 
