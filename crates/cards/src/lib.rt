@@ -1,4 +1,4 @@
 // What a card is refused for: its frame, as a header, as a row's card.
-pub mod frame;
+mod frame;
 pub mod header;
 pub mod row;

@@ -9,7 +9,7 @@ ghost use lib.Seq.{slice};
 ghost use Rattle.deck.specs.Card.{columns, long, every, same, between, digit, card};
 
 // The byte of the decimal digit of a number that has so many digits after it.
-pub fn digit(number: u16, after: usize) -> u8
+pub(crate) fn digit(number: u16, after: usize) -> u8
     ensures { λ r. ⌜ r ≡ digit number after ⌝ }
 {
     let mut rest = number;
