@@ -26,9 +26,9 @@ use Rattle.removal.specs.Links.{links}
 use Rattle.removal.specs.Taken.{leaping}
 use Rattle.removal.proofs.Taking.{chases-left, chase-hops}
 use Rattle.dropping.specs.Dropped.{led}
-use Rattle.dropping.specs.Listed.{named}
+use Rattle.dropping.specs.Listed.{bounds}
 use Rattle.dropping.specs.Mapped.{Mapped}
-use Rattle.dropping.proofs.Sharing.{shared-past, unnamed-apart, shared-other}
+use Rattle.dropping.proofs.Sharing.{shared-past, away-apart, shared-other}
 
 -- an entry that is off is the mark, and one that is on lies in the table
 pub off-mark : (t : List ℕ) (d : ℕ) → on t d ≡ false → at t d ≡ mark
@@ -50,9 +50,9 @@ pub gone-next : (c : Bool) (x y : ℕ) → c ≡ false → y ≡ cond c x y
 gone-next c x y e = rw e
 
 -- a dart with neither side keeps its next
-pub unnamed-keeps : (s : List ℕ) (o : ℕ → ℕ) (a b x d : ℕ) → named s a b d ≡ false
+pub away-keeps : (s : List ℕ) (o : ℕ → ℕ) (a b x d : ℕ) → bounds s a b d ≡ false
     → cond (shared s o a b d) mark x ≡ x
-unnamed-keeps s o a b x d e = rw (unnamed-apart s o a b d e)
+away-keeps s o a b x d e = rw (away-apart s o a b d e)
 
 pub unlink-here : (s : List ℕ) (o : ℕ → ℕ) (a b d x y r : ℕ) → x ≡ y → r ≡ cond (shared s o a b d) mark y
     → r ≡ cond (shared s o a b d) mark x
@@ -116,21 +116,21 @@ module _ (s n o : List ℕ) (a b : ℕ) (p : a < mark) (q : b < mark) (fit : len
   chase-on d h = rw (chase-hops l gone d) (leap-on _ (leap-on _ (leap-on _ (leap-on d h))))
 
   -- a dart with neither side keeps its next
-  named-next : (d : ℕ) → on n d ≡ true → named s a b (at n d) ≡ named s a b d
-  unfolding named
-  named-next d h = rw (m .keeps d h)
+  bounds-next : (d : ℕ) → on n d ≡ true → bounds s a b (at n d) ≡ bounds s a b d
+  unfolding bounds
+  bounds-next d h = rw (m .keeps d h)
 
-  unnamed-next : (d : ℕ) → named s a b d ≡ false → gone (at n d) ≡ false
-  unnamed-next d e = go (on n d) refl
+  away-next : (d : ℕ) → bounds s a b d ≡ false → gone (at n d) ≡ false
+  away-next d e = go (on n d) refl
     where
       go : (c : Bool) → on n d ≡ c → gone (at n d) ≡ false
-      go true h = unnamed-apart s (at o) a b (at n d) (named-next d h ∙ e)
+      go true h = away-apart s (at o) a b (at n d) (bounds-next d h ∙ e)
       go false h = rw (off-mark n d h) mark-stays
 
-  pub unnamed-led : (d : ℕ) → named s a b d ≡ false → led s l a b d ≡ at n d
-  unnamed-led d e =
-      sym (led-past s l a b d (at n d) refl (unnamed-apart s (at o) a b d e) (at n d)
-      (sym (chase-still l gone (at n d) (unnamed-next d e))))
+  pub away-led : (d : ℕ) → bounds s a b d ≡ false → led s l a b d ≡ at n d
+  away-led d e =
+      sym (led-past s l a b d (at n d) refl (away-apart s (at o) a b d e) (at n d)
+      (sym (chase-still l gone (at n d) (away-next d e))))
 
   -- with the next of some darts led on already
   module _ (i : ℕ) (t : List ℕ) (r : Half (led s l a b) i n t) where
@@ -233,12 +233,12 @@ module _ (s n o : List ℕ) (a b : ℕ) (p : a < mark) (q : b < mark) (fit : len
             (ap (λ x. not (eqb x mark)) (getD-table (slots w h) left d mark c) ∙ left-on room d)))
 
     -- a dart with neither side has the next that it had
-    pub unnamed-left : (d : ℕ) → named s a b d ≡ false → at (removed w h l gone .next) d ≡ at n d
+    pub away-left : (d : ℕ) → bounds s a b d ≡ false → at (removed w h l gone .next) d ≡ at n d
     unfolding removed rest
-    unnamed-left d e = go (decLt d (slots w h))
+    away-left d e = go (decLt d (slots w h))
       where
         value : left d ≡ at n d
-        value = sym (led-left d) ∙ rw (unnamed-apart s (at o) a b d e) (unnamed-led d e)
+        value = sym (led-left d) ∙ rw (away-apart s (at o) a b d e) (away-led d e)
 
         go : Dec (d < slots w h) → at (removed w h l gone .next) d ≡ at n d
         go (yes c) = at-below w h rest (λ e. chase l gone (at n e)) d c ∙ value

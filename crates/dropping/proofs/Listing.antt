@@ -17,7 +17,7 @@ use Rattle.laws.proofs.Test.{clash}
 use Rattle.paper.specs.Joining.{at}
 use Rattle.table.proofs.Half.{Half, half-none, half-more, half-all, half-here}
 use Rattle.table.proofs.Entries.{at-entry}
-use Rattle.dropping.specs.Listed.{named, First, Listed}
+use Rattle.dropping.specs.Listed.{bounds, First, Listed}
 
 pub record Listing (q : ℕ → Bool) (n i f : ℕ) (t : List ℕ) : Type 0 where
   pub first : First q n i f
@@ -101,10 +101,10 @@ module _ (q : ℕ → Bool) (n : ℕ) where
       }
 
 -- a slot's side, read
-pub named-here : (s : List ℕ) (a b j : ℕ) (c : Bool) → j < length s → (eqb (getD s j 0) a || eqb (getD s j 0) b) ≡ c
-    → named s a b j ≡ c
-unfolding named
-named-here s a b j c h e = rw (at-entry s j h) e
+pub bounds-here : (s : List ℕ) (a b j : ℕ) (c : Bool) → j < length s → (eqb (getD s j 0) a || eqb (getD s j 0) b) ≡ c
+    → bounds s a b j ≡ c
+unfolding bounds
+bounds-here s a b j c h e = rw (at-entry s j h) e
 
 -- A table treated at the slots of a list alone, in place: the others stay as they are.
 --   Treated g q d s t == of the table s the entries below d have become those of g, and d passes the test or is the end

@@ -1,6 +1,6 @@
 -- The darts with the sides a and b.
 --   shared s o a b d == dart d has the sides a and b, where o leads from a dart to its other
---   named s a b d   == dart d has side a or side b
+--   bounds s a b d   == dart d has side a or side b
 use mathlib.Core.Path.{_≡_, refl, sym, _∙_, ap, ap₂}
 use mathlib.Core.Bool.{Bool, true, false, _&&_, _||_, and-comm, or-comm}
 use mathlib.Core.List.{List}
@@ -13,7 +13,7 @@ use Rattle.laws.proofs.Test.{clash}
 use Rattle.plane.specs.Dart.{mark}
 use Rattle.paper.specs.Joining.{at, between, shared}
 use Rattle.table.proofs.Entries.{at-out}
-use Rattle.dropping.specs.Listed.{named}
+use Rattle.dropping.specs.Listed.{bounds}
 
 or-same : (c : Bool) → (c || c) ≡ c
 or-same true = refl
@@ -46,11 +46,11 @@ pub across-side : (s o : List ℕ) (d x v name : ℕ) → x ≡ at o d → v ≡
 across-side s o d x v name e f = rw (f, e)
 
 -- a side that is a or b
-pub named-first : (x a b : ℕ) → x ≡ a → true ≡ (eqb x a || eqb x b)
-named-first x a b e = rw (eq-eqb x a e)
+pub either-first : (x a b : ℕ) → x ≡ a → true ≡ (eqb x a || eqb x b)
+either-first x a b e = rw (eq-eqb x a e)
 
-pub named-second : (x a b : ℕ) → (x ≡ a → ⊥) → eqb x b ≡ (eqb x a || eqb x b)
-named-second x a b n = rw (ne-eqb x a n)
+pub either-second : (x a b : ℕ) → (x ≡ a → ⊥) → eqb x b ≡ (eqb x a || eqb x b)
+either-second x a b n = rw (ne-eqb x a n)
 
 -- past the end no dart has the sides a and b
 pub shared-past : (s : List ℕ) (o : ℕ → ℕ) (a b : ℕ) → a ≢ mark → b ≢ mark → (d : ℕ) → length s ≤ d
@@ -64,9 +64,9 @@ or-neither : (p q : Bool) → (p || q) ≡ false → (p ≡ false) × (q ≡ fal
 or-neither true q e = clash refl e
 or-neither false q e = (refl, e)
 
-pub unnamed-apart : (s : List ℕ) (o : ℕ → ℕ) (a b d : ℕ) → named s a b d ≡ false → shared s o a b d ≡ false
-unfolding named shared between
-unnamed-apart s o a b d e =
+pub away-apart : (s : List ℕ) (o : ℕ → ℕ) (a b d : ℕ) → bounds s a b d ≡ false → shared s o a b d ≡ false
+unfolding bounds shared between
+away-apart s o a b d e =
     let (p, q) = or-neither (eqb (at s d) a) (eqb (at s d) b) e in
     rw (p, q)
 

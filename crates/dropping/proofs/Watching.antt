@@ -22,9 +22,9 @@ use Rattle.paper.proofs.Marks.{at-below, at-past}
 use Rattle.table.proofs.Entries.{at-end}
 use Rattle.removal.specs.Links.{links}
 use Rattle.removal.proofs.Pruning.{lone-some, lone-none, prune-stop}
-use Rattle.dropping.specs.Listed.{named, First, Listed, Watched}
+use Rattle.dropping.specs.Listed.{bounds, First, Listed, Watched}
 use Rattle.dropping.specs.Mapped.{Mapped}
-use Rattle.dropping.proofs.Leading.{unnamed-left}
+use Rattle.dropping.proofs.Leading.{away-left}
 
 -- After step 1 the list of the darts of a and b has a dart at each point that one dart alone leaves.
 module _ (w h : ℕ) (s n o : List ℕ) (a b : ℕ) (p : a < mark) (q : b < mark) (room : slots w h ≤ mark)
@@ -32,26 +32,26 @@ module _ (w h : ℕ) (s n o : List ℕ) (a b : ℕ) (p : a < mark) (q : b < mark
   abbrev left : List ℕ
   left = removed w h (links n o) (shared s (at o) a b) .next
 
-  unnamed-kept : (d : ℕ) → named s a b d ≡ false → on left d ≡ on n d
+  away-kept : (d : ℕ) → bounds s a b d ≡ false → on left d ≡ on n d
   unfolding on
-  unnamed-kept d e = ap (λ x. not (eqb x mark)) (unnamed-left s n o a b p q (omega arith) m w h full d e)
+  away-kept d e = ap (λ x. not (eqb x mark)) (away-left s n o a b p q (omega arith) m w h full d e)
 
   pub removed-near : (x : ℕ) → degree (mask (on left) x) ≡ 1
-      → (k : ℕ) × (k < 4) × (named s a b (dart x k) ≡ true)
-  removed-near x e = go (some 4 (λ k. named s a b (dart x k))) refl
+      → (k : ℕ) × (k < 4) × (bounds s a b (dart x k) ≡ true)
+  removed-near x e = go (some 4 (λ k. bounds s a b (dart x k))) refl
     where
-      go : (c : Bool) → some 4 (λ k. named s a b (dart x k)) ≡ c
-          → (k : ℕ) × (k < 4) × (named s a b (dart x k) ≡ true)
-      go true z = some-found (λ k. named s a b (dart x k)) 4 z
+      go : (c : Bool) → some 4 (λ k. bounds s a b (dart x k)) ≡ c
+          → (k : ℕ) × (k < 4) × (bounds s a b (dart x k) ≡ true)
+      go true z = some-found (λ k. bounds s a b (dart x k)) 4 z
       go false z =
           absurd (m .alone x
           (ap degree (sym (mask-agree (on left) (on n) x
-          (λ k c. unnamed-kept (dart x k) (some-none (λ k. named s a b (dart x k)) 4 z k c))))
+          (λ k c. away-kept (dart x k) (some-none (λ k. bounds s a b (dart x k)) 4 z k c))))
           ∙ e))
 
   pub removed-watched : (f : ℕ) (t : List ℕ) (k : Links) → k ≡ removed w h (links n o) (shared s (at o) a b)
-      → Listed (named s a b) (slots w h) f t → Watched (k .next) (slots w h) f t
-  removed-watched f t k e g = rw e (record { test = named s a b; list = g; near = removed-near })
+      → Listed (bounds s a b) (slots w h) f t → Watched (k .next) (slots w h) f t
+  removed-watched f t k e g = rw e (record { test = bounds s a b; list = g; near = removed-near })
 
 -- The points of the list, one after another.
 pub record Looked (q : ℕ → Bool) (m : ℕ) (n : List ℕ) (d : ℕ) : Type 0 where

@@ -1,5 +1,5 @@
 -- The darts of two regions, in a list.
---   named s a b d   == dart d has side a or side b, by the table s
+--   bounds s a b d   == dart d has side a or side b, by the table s
 --   First q n d e   == e is the first slot from d on that passes the test q, or n where none of the n slots does
 --   Listed q n f t  == f is the first slot of all that passes, and the table t leads from each to the first after it
 --   Watched n m f t == at each point that one dart alone leaves, by the next n, the list has a dart; it goes from f along t
@@ -14,8 +14,8 @@ use Rattle.plane.specs.Point.{degree}
 use Rattle.paper.specs.Level.{mask}
 use Rattle.paper.specs.Joining.{at, on}
 
-unfoldable pub named : List ℕ → ℕ → ℕ → ℕ → Bool
-named s a b d = eqb (at s d) a || eqb (at s d) b
+unfoldable pub bounds : List ℕ → ℕ → ℕ → ℕ → Bool
+bounds s a b d = eqb (at s d) a || eqb (at s d) b
 
 pub record First (q : ℕ → Bool) (n d e : ℕ) : Type 0 where
   pub after : d ≤ e

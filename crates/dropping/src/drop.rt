@@ -10,7 +10,7 @@ ghost use Rattle.plane.specs.Size.{within};
 ghost use Rattle.plane.specs.Dart.{mark, slots, reversal};
 ghost use Rattle.removal.specs.Links.{links};
 ghost use Rattle.dropping.specs.Dropped.{dropped};
-ghost use Rattle.dropping.specs.Listed.{named, Listed};
+ghost use Rattle.dropping.specs.Listed.{bounds, Listed};
 ghost use Rattle.dropping.specs.Mapped.{Mapped};
 
 // Steps 1 and 2 at a level: the darts with the sides a and b go, then hanging ends. The list has the darts with side a or
@@ -33,7 +33,7 @@ pub fn drop_lines(
         (length (now list) ≡ slots width height) × (length (now next) ≡ slots width height) ×
         (length (now other) ≡ slots width height) × (length (now taken) ≡ slots width height) ×
         (length (now leaps) ≡ slots width height) ×
-        Listed (named (now side) a b) (slots width height) first (now list) ×
+        Listed (bounds (now side) a b) (slots width height) first (now list) ×
         Mapped (now side) (now next) (now other)
         ⌝ }
     ensures { λ _. ⌜
@@ -64,7 +64,7 @@ pub fn drop_plain_lines(
         (length (now list) ≡ slots width height) × (length (now next) ≡ slots width height) ×
         (length (now back) ≡ slots width height) × (length (now taken) ≡ slots width height) ×
         (length (now leaps) ≡ slots width height) ×
-        Listed (named (now side) a b) (slots width height) first (now list) ×
+        Listed (bounds (now side) a b) (slots width height) first (now list) ×
         Mapped (now side) (now next) (table (slots width height) (reversal width))
         ⌝ }
     ensures { λ _. ⌜

@@ -4,10 +4,10 @@ ghost use Prim.Native.Nat.{_≤_, _<_};
 ghost use lib.Dec.{eqb};
 ghost use lib.ListN.{length, set};
 ghost use Rattle.plane.specs.Dart.{mark};
-ghost use Rattle.dropping.specs.Listed.{named, Listed};
+ghost use Rattle.dropping.specs.Listed.{bounds, Listed};
 
 // Whether a side is a or b.
-fn is_named(side: u16, a: u16, b: u16) -> bool
+fn is_either(side: u16, a: u16, b: u16) -> bool
     ensures { λ r. ⌜ r ≡ (eqb side a || eqb side b) ⌝ }
 {
     if side == a {
@@ -21,14 +21,14 @@ fn is_named(side: u16, a: u16, b: u16) -> bool
 pub fn list_darts(side: &[u16], a: u16, b: u16, list: &mut [u16]) -> u16
     requires { ⌜ (length (now side) ≡ length (now list)) × (length (now list) ≤ mark) ⌝ }
     ensures { λ r. ⌜
-        Listed (named (now (side .entry)) a b) (length (now (list .entry))) r (now (list .exit))
+        Listed (bounds (now (side .entry)) a b) (length (now (list .entry))) r (now (list .exit))
         ⌝ }
 {
     let mut i = list.len();
     let mut first = i as u16;
     while 0 < i {
         i -= 1;
-        if is_named(side[i], a, b) {
+        if is_either(side[i], a, b) {
             list[i] = first;
             first = i as u16;
         }

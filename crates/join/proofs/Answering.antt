@@ -28,9 +28,9 @@ use Rattle.verdict.proofs.Refusing.{tag-number, refused-stops}
 use Rattle.verdict.proofs.Refusing.{accepted-within, accepted-stated, accepted-judged, accepted-work, accepted-on}
 use Rattle.join.specs.declared.regions.Joined.{Joined}
 use Rattle.join.specs.Answer.{number, refused, named}
-use Rattle.join.specs.Apply.{Ready}
+use Rattle.joining.specs.Apply.{Ready}
 use Rattle.join.specs.Faithful.{Faithful}
-use Rattle.join.proofs.Readiness.{drawn-ready}
+use Rattle.joining.proofs.Readiness.{drawn-ready}
 use Rattle.join.proofs.Afresh.{joined-faithful}
 use Rattle.join.proofs.regions.Joined.{the-type}
 

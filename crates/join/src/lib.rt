@@ -1,4 +1,3 @@
-// Joining two regions of a drawing: the removal rule in the drawing's own tables.
+// Joining two regions of a drawing: the check, the names, then the removal rule.
 mod adjoin;
-pub mod apply;
 pub mod regions;

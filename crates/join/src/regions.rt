@@ -1,5 +1,5 @@
 use crate::adjoin;
-use crate::apply;
+use joining::apply;
 use plane::dart;
 use table::entry;
 use verdict::judge;

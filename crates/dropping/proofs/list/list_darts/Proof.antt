@@ -2,13 +2,13 @@ use mathlib.Core.Path.{refl, sym, _∙_}
 use native.Mathlib.Omega.{arith}
 use Rattle.plane.specs.Dart.{mark}
 use lib.ListN.{length}
-use Rattle.dropping.specs.Listed.{named}
-use Rattle.dropping.proofs.Listing.{Listing, listing-none, listing-more, listing-less, listing-all, named-here}
+use Rattle.dropping.specs.Listed.{bounds}
+use Rattle.dropping.proofs.Listing.{Listing, listing-none, listing-more, listing-less, listing-all, bounds-here}
 use Rattle.dropping.proofs.list.list_darts.Statement.{statement}
 use Rattle.dropping.proofs.list.list_darts.Tie as tie
 
 abbrev Inv-loop : tie.InvT-loop
-Inv-loop side a b list₀ i₀ first₀ list i first = Listing (named side a b) (length list₀) i first list
+Inv-loop side a b list₀ i₀ first₀ list i first = Listing (bounds side a b) (length list₀) i first list
 
 abbrev μ-loop : tie.MeasureT-loop
 μ-loop side a b list₀ i₀ first₀ list i first = i
@@ -23,15 +23,15 @@ loop-holds c = listing-none _ _ _ refl
 sub-i : tie.Need-sub-i Inv-loop μ-loop
 sub-i c = omega (arith, c .loop-test .taken)
 
-mul-is-named : tie.Need-mul-is-named Inv-loop μ-loop
+mul-is-either : tie.Need-mul-is-either Inv-loop μ-loop
 unfolding mark
-mul-is-named c = omega (arith, c .before .before .before .before .pre .1, c .before .loop .inv .room)
+mul-is-either c = omega (arith, c .before .before .before .before .pre .1, c .before .loop .inv .room)
 
-shared-slice-read-is-named : tie.Need-shared-slice-read-is-named Inv-loop μ-loop
-shared-slice-read-is-named c = omega (arith, c .before .before .before .before .before .pre .0, c .before .before .loop .inv .room, c .before .loop-test .taken)
+shared-slice-read-is-either : tie.Need-shared-slice-read-is-either Inv-loop μ-loop
+shared-slice-read-is-either c = omega (arith, c .before .before .before .before .before .pre .0, c .before .before .loop .inv .room, c .before .loop-test .taken)
 
-is-named-requires : tie.Need-is-named-requires Inv-loop μ-loop
-is-named-requires c κs = tt
+is-either-requires : tie.Need-is-either-requires Inv-loop μ-loop
+is-either-requires c κs = tt
 
 mul-list : tie.Need-mul-list Inv-loop μ-loop
 unfolding mark
@@ -52,8 +52,8 @@ loop-again c =
     let r = c .before .before .before .before .loop .inv in
     let h = c .before .before .before .loop-test .taken in
     listing-more _ _ _ _ _ _ r (omega arith)
-    (named-here _ _ _ _ _ (omega (arith, c .before .before .before .before .before .before .before .pre .0, r .room))
-    (sym (c .before .is-named .ensures) ∙ c .if1 .taken))
+    (bounds-here _ _ _ _ _ (omega (arith, c .before .before .before .before .before .before .before .pre .0, r .room))
+    (sym (c .before .is-either .ensures) ∙ c .if1 .taken))
 
 loop-less-2 : tie.Need-loop-less-2 Inv-loop μ-loop
 loop-less-2 c = omega (arith, c .before .before .before .loop-test .taken)
@@ -63,8 +63,8 @@ loop-again-2 c =
     let r = c .before .before .before .before .loop .inv in
     let h = c .before .before .before .loop-test .taken in
     listing-less _ _ _ _ _ _ r (omega arith)
-    (named-here _ _ _ _ _ (omega (arith, c .before .before .before .before .before .before .before .pre .0, r .room))
-    (sym (c .before .is-named .ensures) ∙ c .if1 .left))
+    (bounds-here _ _ _ _ _ (omega (arith, c .before .before .before .before .before .before .before .pre .0, r .room))
+    (sym (c .before .is-either .ensures) ∙ c .if1 .left))
 
 same-length : tie.Need-same-length Inv-loop μ-loop
 same-length c = c .before .loop .inv .long
@@ -81,9 +81,9 @@ list-darts-spec =
     cast-first
     loop-holds
     sub-i
-    mul-is-named
-    shared-slice-read-is-named
-    is-named-requires
+    mul-is-either
+    shared-slice-read-is-either
+    is-either-requires
     mul-list
     slice-write-list
     cast-first-2

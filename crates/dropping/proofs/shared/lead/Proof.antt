@@ -5,14 +5,14 @@ use native.Mathlib.Omega.{arith}
 use lib.ListN.{length}
 use Rattle.removal.specs.Links.{links}
 use Rattle.dropping.specs.Dropped.{led}
-use Rattle.dropping.specs.Listed.{named}
-use Rattle.dropping.proofs.Leading.{unnamed-led, led-same}
+use Rattle.dropping.specs.Listed.{bounds}
+use Rattle.dropping.proofs.Leading.{away-led, led-same}
 use Rattle.dropping.proofs.Listing.{Treated, treated-none, treated-more, treated-all}
 use Rattle.dropping.proofs.shared.lead.Statement.{statement}
 use Rattle.dropping.proofs.shared.lead.Tie as tie
 
 abbrev Inv-loop : tie.InvT-loop
-Inv-loop side other a b first list next₀ n dart₀ next dart = Treated (led side (links next₀ other) a b) (named side a b) dart next₀ next
+Inv-loop side other a b first list next₀ n dart₀ next dart = Treated (led side (links next₀ other) a b) (bounds side a b) dart next₀ next
 
 abbrev μ-loop : tie.MeasureT-loop
 μ-loop side other a b first list next₀ n dart₀ next dart = n - dart
@@ -24,7 +24,7 @@ cast-n c = omega (arith, c .before .before .before .before .pre .2)
 loop-holds : tie.Need-loop-holds Inv-loop μ-loop
 loop-holds c =
     let q = c .before .before .before .before .pre in
-    treated-none _ _ _ (λ d b e. unnamed-led _ _ _ _ _ (q .0) (q .1) (omega (arith, q .2, q .3)) (q .6) d e) _ _ (q .5)
+    treated-none _ _ _ (λ d b e. away-led _ _ _ _ _ (q .0) (q .1) (omega (arith, q .2, q .3)) (q .6) d e) _ _ (q .5)
 
 led-requires : tie.Need-led-requires Inv-loop μ-loop
 led-requires c κs = tt
@@ -61,7 +61,7 @@ loop-again c =
     let q = c .before .before .before .before .before .before .before .before .before .pre in
     let h = c .before .before .before .loop-test .taken in
     let r = c .before .before .before .before .loop .inv in
-    treated-more _ _ _ (λ d b e. unnamed-led _ _ _ _ _ (q .0) (q .1) (omega (arith, q .2, q .3)) (q .6) d e) _ _ (q .5) _ _ _ r h
+    treated-more _ _ _ (λ d b e. away-led _ _ _ _ _ (q .0) (q .1) (omega (arith, q .2, q .3)) (q .6) d e) _ _ (q .5) _ _ _ r h
     (c .before .led .ensures ∙ led-same _ _ _ _ _ (q .0) (q .1) (omega (arith, q .2, q .3)) (q .6) _ _ (r .half) h)
 
 same-length : tie.Need-same-length Inv-loop μ-loop
@@ -70,7 +70,7 @@ same-length c = c .before .loop .inv .half .long
 returns : tie.Need-returns Inv-loop μ-loop
 returns c =
     let q = c .before .before .before .before .before .before .pre in
-    treated-all _ _ _ (λ d b e. unnamed-led _ _ _ _ _ (q .0) (q .1) (omega (arith, q .2, q .3)) (q .6) d e) _ _ (c .before .loop .inv) (c .loop-test .left)
+    treated-all _ _ _ (λ d b e. away-led _ _ _ _ _ (q .0) (q .1) (omega (arith, q .2, q .3)) (q .6) d e) _ _ (c .before .loop .inv) (c .loop-test .left)
 
 pub lead-spec : {M : Type 1} → statement M
 lead-spec =

@@ -1,7 +1,7 @@
 use mathlib.Core.Path.{sym, _∙_}
 use native.Mathlib.Omega.{arith}
 use lib.ListN.{length}
-use Rattle.dropping.specs.Listed.{named, Listed}
+use Rattle.dropping.specs.Listed.{bounds, Listed}
 use Rattle.dropping.proofs.Leading.{removed-steps}
 use borrow.Author.Needs.{needs}
 use Rattle.dropping.proofs.shared.remove_shared.Statement.{statement}
@@ -10,7 +10,7 @@ use Rattle.dropping.proofs.shared.remove_shared.Tie as tie
 lead-requires : tie.Need-lead-requires
 lead-requires c κs =
     let q = c .before .before .before .before .before .before .pre in
-    let l : Listed (named (c .before .before .before .before .before .before .args .side .now) (c .before .before .before .before .before .before .args .a) (c .before .before .before .before .before .before .args .b)) (length (c .before .before .before .before .before .before .args .next .now)) (c .before .before .before .before .before .before .args .first) (c .before .before .before .before .before .before .args .list .now) =
+    let l : Listed (bounds (c .before .before .before .before .before .before .args .side .now) (c .before .before .before .before .before .before .args .a) (c .before .before .before .before .before .before .args .b)) (length (c .before .before .before .before .before .before .args .next .now)) (c .before .before .before .before .before .before .args .first) (c .before .before .before .before .before .before .args .list .now) =
     rw (q .5) (q .7) in
     (q .1, q .2, omega (arith, q .0, q .5), q .3 ∙ sym (q .5), q .4 ∙ sym (q .5), l, q .8)
 

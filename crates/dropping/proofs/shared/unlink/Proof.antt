@@ -1,17 +1,17 @@
-use Rattle.dropping.proofs.Leading.{unnamed-keeps, unlink-here}
+use Rattle.dropping.proofs.Leading.{away-keeps, unlink-here}
 use mathlib.Core.Bool.{cond}
 use Prim.Native.Nat.{_-_}
 use native.Mathlib.Omega.{arith}
 use lib.ListN.{length}
 use Rattle.plane.specs.Dart.{mark}
 use Rattle.paper.specs.Joining.{at, shared}
-use Rattle.dropping.specs.Listed.{named}
+use Rattle.dropping.specs.Listed.{bounds}
 use Rattle.dropping.proofs.Listing.{Treated, treated-none, treated-more, treated-all, treated-here}
 use Rattle.dropping.proofs.shared.unlink.Statement.{statement}
 use Rattle.dropping.proofs.shared.unlink.Tie as tie
 
 abbrev Inv-loop : tie.InvT-loop
-Inv-loop side other a b first list next₀ n dart₀ next dart = Treated (λ d. cond (shared side (at other) a b d) mark (at next₀ d)) (named side a b) dart next₀ next
+Inv-loop side other a b first list next₀ n dart₀ next dart = Treated (λ d. cond (shared side (at other) a b d) mark (at next₀ d)) (bounds side a b) dart next₀ next
 
 abbrev μ-loop : tie.MeasureT-loop
 μ-loop side other a b first list next₀ n dart₀ next dart = n - dart
@@ -21,7 +21,7 @@ unfolding mark
 cast-n c = omega (arith, c .before .before .before .before .pre .0)
 
 loop-holds : tie.Need-loop-holds Inv-loop μ-loop
-loop-holds c = treated-none _ _ _ (λ d b e. unnamed-keeps _ _ _ _ _ _ e) _ _ (c .before .before .before .before .pre .3)
+loop-holds c = treated-none _ _ _ (λ d b e. away-keeps _ _ _ _ _ _ e) _ _ (c .before .before .before .before .pre .3)
 
 cast-next-left : tie.Need-cast-next-left Inv-loop μ-loop
 cast-next-left c = omega arith
@@ -68,14 +68,14 @@ loop-again c =
     let q = c .before .before .before .before .before .before .before .before .before .pre in
     let h = c .before .before .before .loop-test .taken in
     let r = c .before .before .before .before .loop .inv in
-    treated-more _ _ _ (λ d b e. unnamed-keeps _ _ _ _ _ _ e) _ _ (q .3) _ _ _ r h
-    (unlink-here _ _ _ _ _ _ _ _ (treated-here _ _ _ (λ d b e. unnamed-keeps _ _ _ _ _ _ e) _ _ r h) (c .before .next-left .ensures))
+    treated-more _ _ _ (λ d b e. away-keeps _ _ _ _ _ _ e) _ _ (q .3) _ _ _ r h
+    (unlink-here _ _ _ _ _ _ _ _ (treated-here _ _ _ (λ d b e. away-keeps _ _ _ _ _ _ e) _ _ r h) (c .before .next-left .ensures))
 
 same-length : tie.Need-same-length Inv-loop μ-loop
 same-length c = c .before .loop .inv .half .long
 
 returns : tie.Need-returns Inv-loop μ-loop
-returns c = treated-all _ _ _ (λ d b e. unnamed-keeps _ _ _ _ _ _ e) _ _ (c .before .loop .inv) (c .loop-test .left)
+returns c = treated-all _ _ _ (λ d b e. away-keeps _ _ _ _ _ _ e) _ _ (c .before .loop .inv) (c .loop-test .left)
 
 pub unlink-spec : {M : Type 1} → statement M
 unlink-spec =

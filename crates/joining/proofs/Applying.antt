@@ -16,7 +16,7 @@ use Rattle.drawing.specs.Given.{tables}
 use Rattle.enclosure.specs.Tops.{Rising}
 use Rattle.removal.specs.Links.{links}
 use Rattle.dropping.specs.Dropped.{dropped}
-use Rattle.join.proofs.Fewer.{dropped-fewer, on-lowered}
+use Rattle.joining.proofs.Fewer.{dropped-fewer, on-lowered}
 
 -- Steps 3 to 5.
 pub tops-rising : (w h : ℕ) (o : ℕ → Bool) (t : List ℕ) → t ≡ tops w h o → Rising t

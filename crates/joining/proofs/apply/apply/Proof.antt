@@ -9,9 +9,9 @@ use Rattle.plane.proofs.Fit.{points-fit}
 use Rattle.paper.proofs.Marks.{within-fits}
 use Rattle.table.proofs.Cleared.{cleared-same}
 use Rattle.drawing.proofs.Stated.{stated-long}
-use Rattle.join.proofs.Applying.{all-steps}
-use Rattle.join.proofs.apply.apply.Statement.{statement}
-use Rattle.join.proofs.apply.apply.Tie as tie
+use Rattle.joining.proofs.Applying.{all-steps}
+use Rattle.joining.proofs.apply.apply.Statement.{statement}
+use Rattle.joining.proofs.apply.apply.Tie as tie
 
 -- From each call back to the call before it, and to the start.
 abbrev start : tie.After-list-darts → tie.Start

@@ -19,7 +19,7 @@ ghost use Rattle.paper.specs.Joining.{at, on, smoothed, closes, joined};
 ghost use Rattle.paper.specs.Refusal.{cleared};
 ghost use Rattle.drawing.specs.Given.{tables, works};
 ghost use Rattle.removal.specs.Links.{links};
-ghost use Rattle.join.specs.Apply.{Ready};
+ghost use Rattle.joining.specs.Apply.{Ready};
 
 // Steps 3 to 5 from the lines that remain and their sides: points go, closed curves move to their anchors, parents are
 // found. Top is work.

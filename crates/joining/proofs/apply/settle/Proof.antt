@@ -1,7 +1,7 @@
 use mathlib.Core.Path.{_∙_}
-use Rattle.join.proofs.Applying.{tops-rising, settle-links, settle-parents}
-use Rattle.join.proofs.apply.settle.Statement.{statement}
-use Rattle.join.proofs.apply.settle.Tie as tie
+use Rattle.joining.proofs.Applying.{tops-rising, settle-links, settle-parents}
+use Rattle.joining.proofs.apply.settle.Statement.{statement}
+use Rattle.joining.proofs.apply.settle.Tie as tie
 
 top-points-requires : tie.Need-top-points-requires
 top-points-requires c κs =

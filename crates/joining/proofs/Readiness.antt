@@ -16,9 +16,9 @@ use Rattle.paper.proofs.Sheet.{border-below}
 use Rattle.paper.proofs.Marks.{on-marked, cells-slots, within-fits, names-side-small}
 use Rattle.drawing.proofs.Stated.{stated-parent}
 use Rattle.dropping.specs.Mapped.{Mapped}
-use Rattle.join.specs.Apply.{Ready}
-use Rattle.join.proofs.Fewer.{marked-held, on-below}
-use Rattle.join.proofs.Mapping.{plain-mapped, curves-mapped}
+use Rattle.joining.specs.Apply.{Ready}
+use Rattle.joining.proofs.Fewer.{marked-held, on-below}
+use Rattle.joining.proofs.Mapping.{plain-mapped, curves-mapped}
 
 -- every line of a drawing has its sides
 drawing-sided : (w h : ℕ) (s : List ℕ) → within w h ≡ true → (d : ℕ) → on (drawing w h s .next1) d ≡ true

@@ -1,0 +1,4 @@
+pub mod Applying
+pub mod Fewer
+pub mod Mapping
+pub mod Readiness
