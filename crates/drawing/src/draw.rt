@@ -15,7 +15,6 @@ ghost use lib.ListN.{length, take};
 ghost use Rattle.laws.specs.Table.{table};
 ghost use Rattle.plane.specs.Size.{within};
 ghost use Rattle.plane.specs.Dart.{points, slots};
-ghost use Rattle.paper.specs.Name.{names};
 ghost use Rattle.paper.specs.Enclosure.{parent};
 ghost use Rattle.paper.specs.Joining.{at, on};
 ghost use Rattle.drawing.specs.Parts.{Lined, Kept, Curved};

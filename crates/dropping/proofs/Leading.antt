@@ -5,22 +5,21 @@
 use mathlib.Core.Path.{_≡_, refl, sym, _∙_, ap}
 use mathlib.Core.Bool.{Bool, true, false, cond, not, _&&_}
 use mathlib.Core.List.{List}
-use mathlib.Core.Logic.{_≢_}
 use Prim.Native.Nat.{ℕ, _≤_, _<_}
 use native.Mathlib.Decide.{decLt}
 use native.Mathlib.Omega.{arith}
 use lib.Dec.{eqb}
 use lib.ListN.{length, getD}
-use borrow.Author.Tests.{eq-eqb, ne-eqb, eqb-false, eqb-true, not-true, not-false}
+use borrow.Author.Tests.{eq-eqb, ne-eqb, eqb-true, not-false}
 use Rattle.laws.specs.Table.{table}
-use Rattle.laws.proofs.Table.{length-table, getD-table, table-agree}
+use Rattle.laws.proofs.Table.{getD-table, table-agree}
 use Rattle.laws.proofs.Test.{clash}
 use Rattle.plane.specs.Dart.{mark, slots}
 use Rattle.paper.specs.Level.{marked}
 use Rattle.paper.specs.Joining.{Links, at, on, shared, chase, removed}
 use Rattle.paper.proofs.Marks.{at-below, at-past}
 use Rattle.curves.specs.Link.{alongSide}
-use Rattle.table.proofs.Entries.{at-in, at-entry, at-out, on-mark, on-entry}
+use Rattle.table.proofs.Entries.{at-in, at-entry, at-out, on-mark}
 use Rattle.table.proofs.Half.{Half, half-here}
 use Rattle.removal.specs.Links.{links}
 use Rattle.removal.specs.Taken.{leaping}

@@ -1,7 +1,7 @@
 -- The darts with the sides a and b.
 --   shared s o a b d == dart d has the sides a and b, where o leads from a dart to its other
 --   bounds s a b d   == dart d has side a or side b
-use mathlib.Core.Path.{_≡_, refl, sym, _∙_, ap, ap₂}
+use mathlib.Core.Path.{_≡_, refl, sym, _∙_, ap₂}
 use mathlib.Core.Bool.{Bool, true, false, _&&_, _||_, and-comm, or-comm}
 use mathlib.Core.List.{List}
 use mathlib.Core.Logic.{_≢_}

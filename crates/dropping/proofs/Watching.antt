@@ -1,14 +1,14 @@
 -- Step 2 after step 1: a dart can only hang where a dart went.
 --   Watched n m f t == at each point that one dart alone leaves, by the next n, the list has a dart
 use mathlib.Core.Path.{_≡_, refl, sym, _∙_, ap}
-use mathlib.Core.Bool.{Bool, true, false, not, _&&_}
+use mathlib.Core.Bool.{Bool, true, false, not}
 use mathlib.Core.List.{List}
 use Prim.Native.Nat.{ℕ, _+_, _/_, _≤_, _<_}
 use native.Mathlib.Decide.{decLt, ℕ-discrete}
 use native.Mathlib.Omega.{arith}
 use lib.Dec.{eqb}
 use lib.ListN.{length, getD}
-use borrow.Author.Tests.{eqb-true, ne-eqb}
+use borrow.Author.Tests.{eqb-true}
 use Rattle.laws.specs.Table.{some}
 use Rattle.laws.proofs.Table.{some-found, some-none}
 use Rattle.laws.proofs.Test.{clash}
@@ -16,10 +16,8 @@ use Rattle.plane.specs.Dart.{mark, points, slots, dart, point}
 use Rattle.plane.specs.Point.{degree}
 use Rattle.plane.proofs.Darts.{point-dart, dart-below}
 use Rattle.paper.specs.Level.{mask}
-use Rattle.paper.specs.Joining.{Links, at, on, shared, chase, hanging, removed, prune, pruned}
+use Rattle.paper.specs.Joining.{Links, at, on, shared, hanging, removed, prune, pruned}
 use Rattle.paper.proofs.Held.{mask-agree}
-use Rattle.paper.proofs.Marks.{at-below, at-past}
-use Rattle.table.proofs.Entries.{at-end}
 use Rattle.removal.specs.Links.{links}
 use Rattle.removal.proofs.Pruning.{lone-some, lone-none, prune-stop}
 use Rattle.dropping.specs.Listed.{bounds, First, Listed, Watched}

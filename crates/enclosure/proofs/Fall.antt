@@ -16,7 +16,7 @@ use Rattle.plane.specs.Size.{within}
 use Rattle.plane.specs.Dart.{mark, slots}
 use Rattle.paper.specs.Name.{names}
 use Rattle.paper.specs.Level.{side, border}
-use Rattle.paper.specs.Enclosure.{parent, parents}
+use Rattle.paper.specs.Enclosure.{parent}
 use Rattle.paper.specs.Drawing.{Tables, drawn, drawing, judged}
 use Rattle.paper.specs.Joining.{at, on}
 use Rattle.paper.proofs.Marks.{within-fits}

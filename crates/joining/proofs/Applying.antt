@@ -10,7 +10,7 @@ use Rattle.laws.specs.Least.{lower}
 use Rattle.plane.specs.Dart.{mark, points, slots, reversal}
 use Rattle.paper.specs.Level.{tops, marked}
 use Rattle.paper.specs.Enclosure.{parent, parents}
-use Rattle.paper.specs.Joining.{Links, at, on, shared, removed, pruned, smoothed, closes, closed, joined}
+use Rattle.paper.specs.Joining.{Links, at, on, smoothed, closes, closed, joined}
 use Rattle.paper.proofs.Piece.{tops-le}
 use Rattle.drawing.specs.Given.{tables}
 use Rattle.enclosure.specs.Tops.{Rising}

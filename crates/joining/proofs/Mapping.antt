@@ -14,7 +14,7 @@ use Rattle.laws.proofs.Loop.{loops-passes}
 use Rattle.laws.proofs.Over.{links}
 use Rattle.plane.specs.Dart.{mark, slots, reversal}
 use Rattle.plane.specs.Point.{degree}
-use Rattle.paper.specs.Level.{mask, border}
+use Rattle.paper.specs.Level.{mask}
 use Rattle.paper.specs.Drawing.{drawn}
 use Rattle.paper.specs.Joining.{Links, at, on}
 use Rattle.paper.proofs.Sheet.{sheet, lines-map, sheet-chart, sheet-few, border-alone}

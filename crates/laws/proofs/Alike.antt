@@ -5,21 +5,13 @@ use mathlib.Core.Path.{_≡_, refl, sym, _∙_, ap, ap₂}
 use mathlib.Core.Bool.{Bool, true, false, _&&_}
 use Prim.Native.Nat.{ℕ, zero, suc}
 use native.Mathlib.Omega.{arith}
-use Rattle.laws.proofs.Chart.{Map, Chart, Covers, Passes, times, last, level}
+use Rattle.laws.proofs.Chart.{Map, Chart, Covers, times, last, level}
 use Rattle.laws.proofs.Orbit.{orbit-on}
 use Rattle.laws.proofs.Test.{and-left}
 use Rattle.laws.proofs.Walk.{Run, run-is, run-agrees}
 use Rattle.laws.proofs.Level.{leads, last-run, last-on}
 use Rattle.laws.proofs.Less.{Alike}
 use Rattle.laws.proofs.Over.{links, Over}
-
-pub alike-then : {a b c : Map} → Alike a b → Alike b c → Alike a c
-alike-then p q =
-    record {
-      same-on = λ d. p .same-on d ∙ q .same-on d;
-      same-nx = λ d h. p .same-nx d h ∙ q .same-nx d (sym (p .same-on d) ∙ h);
-      same-rev = λ d h. p .same-rev d h ∙ q .same-rev d (sym (p .same-on d) ∙ h);
-    }
 
 -- tables of functions that agree where darts are on are one
 pub links-agree : (none : ℕ) {on off : ℕ → Bool} {f g : ℕ → ℕ} → ((d : ℕ) → on d ≡ off d)
@@ -69,18 +61,6 @@ module _ {a b : Map} (c : Chart a) (size : a .n ≡ b .n) (at : (d : ℕ) → a 
             let o = e .same-on d ∙ h in
             let (i, q) = v .ahead d o in
             (i, ap (leads b k) (times-same i d o) ∙ leads-same k (times nx i d) (orbit-on (c .turns) i d o) ∙ q);
-      }
-
-  pub alike-passes : {k : ℕ → Bool} → Passes a k → Passes b k
-  alike-passes {k} p =
-      record {
-        back = λ d h q.
-            let o = e .same-on d ∙ h in
-            let x = e .same-nx d o in
-            let r = c .turns .stays d o in
-            sym (ap (λ y. b .nx (b .rev y)) x) ∙ ap (b .nx) (sym (e .same-rev (nx d) r)) ∙ sym (e .same-nx (rev (nx d)) (c .rev-on (nx d) r))
-            ∙ p .back d o (ap k (at (nx d) ∙ ap (b .pt) x) ∙ q)
-            ∙ e .same-rev d o;
       }
 
   pub alike-over : {k : ℕ → Bool} {none : ℕ} {nt ot : ℕ → ℕ} → Covers a k → Over none a k nt ot → Over none b k nt ot

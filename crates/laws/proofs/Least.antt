@@ -56,11 +56,6 @@ lower-left a b = lower-of a b a (inl refl)
 pub lower-right : (a b : ℕ) → lower a b b ≡ min a b
 lower-right a b = lower-of a b b (inr refl)
 
-pub lower-lower : (a b v : ℕ) → lower a b (lower a b v) ≡ lower a b v
-lower-lower a b v =
-    ⊎-elim (λ q. ⊎-elim (λ p. omega arith) (λ p. omega arith) (lower-cases a b v)) (λ q. q .1)
-    (lower-cases a b (lower a b v))
-
 pub lower-comm : (a b v : ℕ) → lower a b v ≡ lower b a v
 unfolding lower
 lower-comm a b v = rw (max-comm a b, min-comm a b)
@@ -163,10 +158,6 @@ module _ {b c : ℕ → ℕ} {n : ℕ} {g : ℕ → ℕ} (r : Roots b c n g) whe
       go : (i j : ℕ) → Near b c n i j → g i ≡ g j
       go i j (by-b h e) = rw e (sym (r .same-b i h))
       go i j (by-c h e) = rw e (sym (r .same-c i h))
-
-  -- nodes that have one root are joined
-  pub same-joined : {i j : ℕ} → i < n → j < n → g i ≡ g j → Joined b c n i j
-  same-joined {i} {j} h k e = then (rw e at (r .joined i h)) (back (r .joined j k))
 
   -- a root is its own root
   pub roots-root : (i : ℕ) → i < n → g (g i) ≡ g i
@@ -279,12 +270,6 @@ module _ (n : ℕ) (b c : ℕ → ℕ) (back-b : (i : ℕ) → i < n → b i ≤
       let r = ties-rooted t table-rooted n (le-refl n) in
       record { same-b = ties-b b c t n; same-c = ties-c b c t n; low = r .low; joined = r .joined }
 
-  pub least-b : (i : ℕ) → i < n → getD (least n b c) (b i) 0 ≡ getD (least n b c) i 0
-  least-b = least-roots .same-b
-
-  pub least-c : (i : ℕ) → i < n → getD (least n b c) (c i) 0 ≡ getD (least n b c) i 0
-  least-c = least-roots .same-c
-
   -- past the last node an entry reads as 0
   pub least-le : (i : ℕ) → getD (least n b c) i 0 ≤ i
   least-le i = go (decLt i n)
@@ -294,30 +279,6 @@ module _ (n : ℕ) (b c : ℕ → ℕ) (back-b : (i : ℕ) → i < n → b i ≤
       go (no h) =
           let k : length (least n b c) ≤ i = rw length-least (omega arith) in
           rw (List·getD-eq-default (least n b c) 0 k) zero-le
-
-  pub least-joined : (i : ℕ) → i < n → Joined b c n i (getD (least n b c) i 0)
-  least-joined = least-roots .joined
-
-  near-below : (i j : ℕ) → Near b c n i j → (i < n) × (j < n)
-  near-below i j (by-b h e) = let k = back-b i h in omega arith
-  near-below i j (by-c h e) = let k = back-c i h in omega arith
-
-  pub joined-below : {i j : ℕ} → Joined b c n i j → i < n → j < n
-  joined-below l = linked-iff (λ i. i < n) near-below l .0
-
-  -- the nodes of one entry are those that are joined
-  pub joined-least : {i j : ℕ} → Joined b c n i j → getD (least n b c) i 0 ≡ getD (least n b c) j 0
-  joined-least = roots-same least-roots
-
-  pub least-same : (i j : ℕ) → i < n → j < n → getD (least n b c) i 0 ≡ getD (least n b c) j 0 → Joined b c n i j
-  least-same i j h k e = same-joined least-roots h k e
-
-  pub least-least : (i : ℕ) → i < n → getD (least n b c) (getD (least n b c) i 0) 0 ≡ getD (least n b c) i 0
-  least-least = roots-root least-roots
-
-  -- no node that is joined is less
-  pub least-lowest : {i j : ℕ} → Joined b c n i j → getD (least n b c) i 0 ≤ j
-  least-lowest {j = j} l = rw (joined-least l) (least-le j)
 
   -- the laws of roots decide the entries
   pub least-unique : (g : ℕ → ℕ) → Roots b c n g → (i : ℕ) → i < n → g i ≡ getD (least n b c) i 0

@@ -42,13 +42,6 @@ eqb-comm a b = go (ℕ-discrete a b)
 module _ {m : Map} (c : Chart m) where
   open Map m using (n, on, rev, nx, pt, side)
 
-  -- the two sides of a line differ, so the three darts do
-  pub rev-not-self : (d : ℕ) → on d ≡ true → rev d ≢ d
-  rev-not-self d h e = c .parts d h (ap side e)
-
-  pub rev-not-next : (d : ℕ) → on d ≡ true → rev d ≢ nx d
-  rev-not-next d h e = c .parts d h (ap side e ∙ c .keeps d h)
-
   pub rev-turns : Turns n on rev
   rev-turns =
       record {
@@ -193,25 +186,6 @@ module _ {m : Map} {k : ℕ → Bool} (c : Chart m) (p : Passes m k) where
             let (j, _, r) = last-run c v d o in
             let q = less-run f o (not-true (taken m f d) (and-right (on d) (left m f d) h)) r in
             (j, ap (leads m k) (sym (run-end q)) ∙ run-stops q);
-      }
-
-  -- fewer lines are passed straight too
-  less-back : (f : ℕ → ℕ) (d : ℕ) → on d ≡ true → taken m f d ≡ false → k (pt (nx d)) ≡ false
-      → less m f .nx (rev (less m f .nx d)) ≡ rev d
-  unfolding less chase
-  less-back f d h t q =
-      ap (λ x. chase m f n (nx (rev x))) (less-next f d h t q) ∙ ap (chase m f n) (p .back d h q)
-      ∙ run-stop (rot m) (left m f) n (rev d) (ap not (taken-rev c f d h ∙ t))
-
-  pub less-passes : (f : ℕ → ℕ) → Passes (less m f) k
-  unfolding less
-  less-passes f =
-      record {
-        back =
-            λ d h s.
-            let o = and-left (on d) (left m f d) h in
-            let l = and-right (on d) (left m f d) h in
-            less-back f d o (not-true (taken m f d) l) (ap k (sym (chase-pt c f d o l)) ∙ s);
       }
 
 -- the same darts are on, with the same next darts and reversals

@@ -8,9 +8,9 @@ use mathlib.Core.Path.{_≡_, sym, _∙_, ap}
 use mathlib.Core.Bool.{Bool, true, false, _&&_}
 use Prim.Native.Nat.{ℕ, suc, _<_}
 use native.Mathlib.Omega.{arith}
-use Rattle.laws.proofs.Chart.{Map, Turns, Chart, Covers, Passes, times, last, level}
+use Rattle.laws.proofs.Chart.{Map, Turns, Chart, Covers, Passes, last, level}
 use Rattle.laws.proofs.Test.{and-true, and-left, and-right}
-use Rattle.laws.proofs.Walk.{Run, here, more, step, run-is, run-end}
+use Rattle.laws.proofs.Walk.{Run, here, more, step, run-is}
 use Rattle.laws.proofs.Walk.{run-stops, run-fixes, run-short, run-on, run-reaches, first-return}
 
 abbrev pub leads : Map → (ℕ → Bool) → ℕ → Bool
@@ -52,11 +52,6 @@ module _ {m : Map} {k : ℕ → Bool} (c : Chart m) (v : Covers m k) where
 
   pub last-side : (d : ℕ) → on d ≡ true → side (last m k d) ≡ side d
   last-side d h = run-side c h (last-run d h .2)
-
-  pub last-ahead : (d : ℕ) → on d ≡ true → (i : ℕ) × (i < n) × (last m k d ≡ times nx i d)
-  last-ahead d h =
-      let (j, l, r) = last-run d h in
-      (j, l, run-end r)
 
 -- Where points that are not kept are passed straight, a run is the run of the reversals backwards.
 module _ {m : Map} {k : ℕ → Bool} (c : Chart m) (p : Passes m k) where

@@ -115,13 +115,3 @@ module _ {m : Map} (c : Chart m) {p : ℕ} where
   two-turn {u} {v} t =
       ⊎-elim (λ e. absurd (turn-side c u (t .one) (ap side e))) (λ e. e)
       (t .only (nx (rev u)) (turn-on c u (t .one)) (turn-at c u (t .one) ∙ t .one-at))
-
-  two-back-one : {u v : ℕ} → Two m p u v → (d : ℕ) → on d ≡ true → pt (nx d) ≡ p → nx d ≡ u → nx (rev (nx d)) ≡ rev d
-  two-back-one {u} {v} t d h q e =
-      ⊎-elim (λ a. absurd (back-apart c d h (a ∙ sym e))) (λ a. ap (λ x. nx (rev x)) e ∙ two-turn t ∙ sym a)
-      (t .only (rev d) (c .rev-on d h) (sym (c .leaves d h) ∙ q))
-
-  -- through a point with two darts, next of the way back is the way back of next
-  pub two-back : {u v : ℕ} → Two m p u v → (d : ℕ) → on d ≡ true → pt (nx d) ≡ p → nx (rev (nx d)) ≡ rev d
-  two-back t d h q =
-      ⊎-elim (two-back-one t d h q) (two-back-one (two-swap t) d h q) (t .only (nx d) (c .turns .stays d h) q)

@@ -15,18 +15,8 @@ use Rattle.laws.proofs.Level.{last-kept, last-other}
 use Rattle.laws.proofs.Over.{next, other, put, without, Entry, Over, put-cases}
 use Rattle.laws.proofs.Over.{without-off, without-at, without-else}
 use Rattle.laws.proofs.Over.{entry-on, entry-off, entries, entry-stays, over-next, over-other}
-use Rattle.laws.proofs.Meet.{Meets, Two, two-swap, two-turn, two-back, meets-after, covers-meets, meets-covers}
+use Rattle.laws.proofs.Meet.{Meets, Two, two-swap, two-turn, meets-after, covers-meets, meets-covers}
 use Rattle.laws.proofs.Link.{other-on, other-apart, other-other, other-meets, last-same, last-next}
-
-module _ {m : Map} {k : ℕ → Bool} (c : Chart m) (s : Passes m k) {p u v : ℕ} (t : Two m p u v) where
-  open Map m using (on, rev, nx, pt)
-
-  pub splice-passes : Passes m (without k p)
-  splice-passes = record { back = λ d h e. go d h e (ℕ-discrete (pt (nx d)) p) }
-    where
-      go : (d : ℕ) → on d ≡ true → without k p (pt (nx d)) ≡ false → Dec (pt (nx d) ≡ p) → nx (rev (nx d)) ≡ rev d
-      go d h e (yes q) = two-back c t d h q
-      go d h e (no q) = s .back d h (sym (without-else k p (pt (nx d)) q) ∙ e)
 
 module _ {m : Map} {k : ℕ → Bool} (c : Chart m) (w : Covers m k) (s : Passes m k) {p : ℕ} (kp : k p ≡ true) where
   open Map m using (on, nx, pt)

@@ -67,16 +67,6 @@ getD-map f [] i y z h = absurd (not-suc-le-zero h)
 getD-map f (x ∷ l) zero y z h = refl
 getD-map f (x ∷ l) (suc i) y z h = getD-map f l i y z (omega arith)
 
--- Mapping a table.
-map-listed : {A B : Type 0} (f : A → B) (g : ℕ → A) (k n : ℕ) → map f (listed g k n) ≡ listed (λ i. f (g i)) k n
-unfolding listed
-map-listed {B = B} f g k zero = refl
-map-listed {B = B} f g k (suc n) = ap {B = List B} (λ l. f (g k) ∷ l) (map-listed f g (suc k) n)
-
-pub map-table : {A B : Type 0} (f : A → B) (n : ℕ) (g : ℕ → A) → map f (table n g) ≡ table n (λ i. f (g i))
-unfolding table
-map-table f n g = map-listed f g 0 n
-
 -- A test that passes at the last number or below.
 or-false : (a b : Bool) → a || b ≡ false → (a ≡ false) × (b ≡ false)
 or-false true b e = absurd (true≢false e)

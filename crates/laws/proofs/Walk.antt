@@ -125,12 +125,6 @@ module _ {f : ℕ → ℕ} {stop : ℕ → Bool} (P : ℕ → Type 0) (stays : (
   run-agrees g halt a b (more {d = d} s r) p =
       step (a d p ∙ s) (b d p s) (run-agrees g halt a b r (stays d p s))
 
--- two maps that agree while not stopped lead to the same end
-pub ends-agree : {f g : ℕ → ℕ} {stop : ℕ → Bool} {k l d e c : ℕ} → ((x : ℕ) → stop x ≡ false → g x ≡ f x)
-    → Run f stop k d e → Run g stop l d c → e ≡ c
-ends-agree {g = g} {stop = stop} h r q =
-    run-same (run-agrees (λ x. Unit {0}) (λ x _ _. tt) g stop (λ x _. refl) (λ x _. h x) r tt) q
-
 -- the run that begins one step later, with the test one step earlier
 shift-step : (f : ℕ → ℕ) (stop : ℕ → Bool) (n d : ℕ) (b : Bool) → stop (f d) ≡ b
     → f (run f (λ e. stop (f e)) n (f d)) ≡ run f stop n (f (f d))
@@ -174,13 +168,6 @@ module _ {n : ℕ} {on : ℕ → Bool} {f : ℕ → ℕ} (t : Turns n on f) wher
       let l : k < n = run-short h r in
       let m : k ≤ n = omega arith in
       (k, l, rw (run-is r m) r)
-
-  -- what passes the test ahead passes it within n steps
-  pub found-short : (stop : ℕ → Bool) (i d : ℕ) → on d ≡ true → stop (times f i d) ≡ true
-      → (k : ℕ) × (k < n) × (stop (times f k d) ≡ true)
-  found-short stop i d h s =
-      let (k, l, r) = run-reaches stop i d h s in
-      (k, l, rw (← run-end r) (run-stops r))
 
 -- a map that keeps a test turns the darts that pass it
 pub turns-within : {n : ℕ} {on : ℕ → Bool} {f : ℕ → ℕ} (s : ℕ → Bool) → Turns n on f

@@ -13,7 +13,6 @@ ghost use Prim.Native.Nat.{_+_, _*_, _≤_};
 ghost use lib.ListN.{length};
 ghost use Rattle.plane.specs.Size.{within};
 ghost use Rattle.plane.specs.Dart.{points, slots};
-ghost use Rattle.paper.specs.Name.{names};
 ghost use Rattle.paper.specs.Refusal.{cleared, levelTables, levelled};
 ghost use Rattle.region.specs.Frame.{framed};
 ghost use Rattle.lines.specs.Line.{nexts, sides};

@@ -11,7 +11,7 @@ use lib.Dec.{eqb, ltb, lit<}
 use lib.ListN.{getD, set}
 use borrow.Author.Tests.{le-ltb}
 use Rattle.laws.proofs.Table.{getD-table}
-use Rattle.plane.specs.Dart.{mark, dart, direction, beside, far, turned, reversal}
+use Rattle.plane.specs.Dart.{mark, dart, beside, far, turned, reversal}
 use Rattle.plane.specs.Point.{half, has, right}
 use Rattle.rules.specs.Turn.{turn, turnOf}
 use Rattle.plane.proofs.Darts.{point-dart, direction-dart, turned-below, far-dart, reversal-dart}

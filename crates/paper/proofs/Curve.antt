@@ -7,14 +7,14 @@ use mathlib.Core.Path.{_≡_, sym, _∙_}
 use mathlib.Core.Bool.{true}
 use mathlib.Core.List.{List}
 use mathlib.Core.Logic.{_↔_}
-use Prim.Native.Nat.{ℕ, _<_, _≤_}
+use Prim.Native.Nat.{ℕ, _≤_}
 use Rattle.laws.proofs.Chart.{times}
 use Rattle.laws.proofs.Orbit.{orbit-on}
 use Rattle.laws.proofs.Meet.{Meets, meets-start, covers-meets}
 use Rattle.laws.proofs.Curve.{Clear, meets-joined, tops-meets}
-use Rattle.plane.specs.Dart.{points, point}
+use Rattle.plane.specs.Dart.{point}
 use Rattle.paper.specs.Level.{border, side, next, big, kept3, among}
-use Rattle.paper.proofs.Piece.{Piece, same-top, top-piece, tops-le}
+use Rattle.paper.proofs.Piece.{Piece, top-piece, tops-le}
 use Rattle.paper.proofs.Sheet.{sheet, sheet-chart, sheet-few, border-lines}
 use Rattle.paper.proofs.Kept.{top, dart-point, piece-joined, sheet-inside, sheet-tops, sheet-anchored, sheet-loops}
 
@@ -25,19 +25,9 @@ module _ (w h : ℕ) (n : List ℕ) (d : ℕ) (e : border w h n d ≡ true) wher
   unfolding sheet
   met-dart (i, a) = (times (next w (border w h n)) i d, orbit-on (sheet-chart w h n .turns) i d e, a)
 
-  pub met-point : {q : ℕ} → Meets (sheet w h n) d q → q < points w h
-  met-point r =
-      let (x, o, a) = met-dart r in
-      rw a at (dart-point w h (border w h n) (border-lines w h n) x o)
-
   pub met-top : {q : ℕ} → Meets (sheet w h n) d q → top w h (border w h n) q ≡ top w h (border w h n) (point d)
   unfolding sheet
   met-top r = tops-meets (sheet-chart w h n) (sheet-tops w h n) e r
-
-  pub met-piece : {q : ℕ} → Meets (sheet w h n) d q → Piece w h (border w h n) (point d) q
-  met-piece {q} r =
-      let b = dart-point w h (border w h n) (border-lines w h n) d e in
-      same-top w h (border w h n) (sheet-inside w h n) (point d) q b (met-point r) .0 (sym (met-top r))
 
   -- no point that is met is less than the least point of the piece
   pub met-least : {q : ℕ} → Meets (sheet w h n) d q → top w h (border w h n) (point d) ≤ q
@@ -51,12 +41,6 @@ module _ (w h : ℕ) (n : List ℕ) (d : ℕ) (e : border w h n d ≡ true) wher
     closed-whole r =
         meets-joined (sheet-chart w h n) (sheet-few w h n) e c
         (piece-joined w h (border w h n) (border-lines w h n) (side w h n) r) .0 (meets-start (sheet-chart w h n) d)
-
-    pub closed-same : (q : ℕ) → q < points w h → top w h (border w h n) q ≡ top w h (border w h n) (point d)
-        → Meets (sheet w h n) d q
-    closed-same q b t =
-        let a = dart-point w h (border w h n) (border-lines w h n) d e in
-        closed-whole (same-top w h (border w h n) (sheet-inside w h n) (point d) q a b .0 (sym t))
 
     pub closed-top : Meets (sheet w h n) d (top w h (border w h n) (point d))
     closed-top =

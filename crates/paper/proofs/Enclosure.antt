@@ -101,9 +101,6 @@ module _ (w h : ℕ) (n : List ℕ) {t : ℕ} (s : Head w h (border w h n) t) wh
   pub head-east : border w h n (dart t 0) ≡ true
   head-east = head-lines .0
 
-  pub head-south : border w h n (dart t 1) ≡ true
-  head-south = head-lines .1
-
   -- its north-west, north-east and south-west cells are one
   head-hands : (k : ℕ) → k < 4 → border w h n (dart t k) ≡ false → right (cells w h n t) k ≡ left (cells w h n t) k
   unfolding border

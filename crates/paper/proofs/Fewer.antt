@@ -69,7 +69,3 @@ module _ (w h : ℕ) (n : List ℕ) (f : ℕ → ℕ) (z : f 0 ≡ 0) where
   fewer-next d e =
       sym (fewer-chase (slots w h - 4) d e)
       ∙ ap (λ c. chase (sheet w h n) f c (next w (border w h n) d)) (slots-four w h)
-
-  pub fewer-four : (d : ℕ) → border w h (map f n) d ≡ true
-      → less (sheet w h n) f .nx d ≡ chase (sheet w h n) f 4 (next w (border w h n) d)
-  fewer-four d e = sym (fewer-next d e) ∙ sym (fewer-chase 0 d e)

@@ -3,7 +3,7 @@
 --   own w h         == the table of names that gives every cell its own
 --   grid w h        == the map of level 0
 --   called n        == the name by the table n of a cell's own name, 0 of the outside
-use mathlib.Core.Path.{_≡_, refl, sym, ap, _∙_, subst, subst₂, fun-ext}
+use mathlib.Core.Path.{_≡_, refl, sym, ap, _∙_, subst, fun-ext}
 use mathlib.Core.Bool.{Bool, true, false, cond, _&&_}
 use mathlib.Core.List.{List, map}
 use Prim.Native.Nat.{ℕ, zero, suc, _+_, _*_, _<_, _≤_}
@@ -15,16 +15,16 @@ use lib.ListN.{getD}
 use borrow.Author.Tests.{lt-ltb, ltb-true}
 use Rattle.laws.specs.Table.{table}
 use Rattle.laws.proofs.Table.{getD-table}
-use Rattle.laws.proofs.Chart.{Map, Chart, Few, Colours, less}
+use Rattle.laws.proofs.Chart.{Map, Chart, less}
 use Rattle.plane.specs.Dart.{dart, point, direction, line}
 use Rattle.plane.specs.Point.{right, parts}
 use Rattle.paper.specs.Name.{named, cells}
 use Rattle.plane.proofs.Darts.{place, every-line, reversal-east, reversal-south}
 use Rattle.paper.proofs.Name.{cell-below}
 use Rattle.paper.proofs.Cells.{named-west, named-north, named-east, named-south, named-map}
-use Rattle.paper.specs.Level.{side, border, next, big}
+use Rattle.paper.specs.Level.{side, border, next}
 use Rattle.paper.proofs.Sheet.{side-east, side-south, across-east, across-south, differs-border, border-line}
-use Rattle.paper.proofs.Sheet.{border-back, lines-map, sheet, sheet-chart, sheet-colours, sheet-few}
+use Rattle.paper.proofs.Sheet.{border-back, lines-map, sheet, sheet-chart}
 use Rattle.paper.proofs.Fewer.{fewer-side, fewer-border, fewer-next}
 
 abbrev pub own : ℕ → ℕ → List ℕ
@@ -102,12 +102,6 @@ module _ (w h : ℕ) (v : 1 ≤ w) (u : 1 ≤ h) where
 
   pub grid-chart : Chart (grid w h)
   grid-chart = subst Chart own-grid (sheet-chart w h (own w h))
-
-  pub grid-colours : Colours (grid w h) direction
-  grid-colours = subst (λ m. Colours m direction) own-grid (sheet-colours w h (own w h))
-
-  pub grid-few : Few (grid w h) (big (line w h))
-  grid-few = subst₂ Few own-grid (ap big (fun-ext (own-border w h v u))) (sheet-few w h (own w h))
 
 -- the name by the table n of a cell's own name
 unfoldable pub called : List ℕ → ℕ → ℕ

@@ -12,7 +12,7 @@ use lib.Dec.{eqb}
 use lib.ListN.{length, set}
 use lib.Seq.{getD-set-same, getD-set-other}
 use borrow.Author.Tests.{eq-eqb, ne-eqb, le-ltb, ltb-false}
-use Rattle.laws.proofs.Test.{and-left, and-right}
+use Rattle.laws.proofs.Test.{and-left}
 use Rattle.laws.proofs.Chart.{Map, Chart, Few, Covers, level}
 use Rattle.laws.proofs.Over.{put, Over}
 use Rattle.laws.proofs.Meet.{Two}
@@ -95,10 +95,6 @@ module _ {w h : ℕ} {x : Map} (s : Plane w h x) (k : ℕ → Bool) where
   level-was : (d : ℕ) → level x k .on d ≡ true → x .on d ≡ true
   unfolding level
   level-was d e = and-left (x .on d) (k (x .pt d)) e
-
-  level-kept : (d : ℕ) → level x k .on d ≡ true → k (x .pt d) ≡ true
-  unfolding level
-  level-kept d e = and-right (x .on d) (k (x .pt d)) e
 
   level-at : (p j : ℕ) → j < 4 → level x k .on (dart p j) ≡ (x .on (dart p j) && k p)
   unfolding level

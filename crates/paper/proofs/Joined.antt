@@ -14,7 +14,7 @@ use Rattle.laws.specs.Least.{lower}
 use Rattle.laws.specs.Table.{table, number}
 use Rattle.laws.proofs.Least.{lower-other}
 use Rattle.laws.proofs.Table.{table-agree}
-use Rattle.laws.proofs.Chart.{Map, Chart, Covers, Passes, less}
+use Rattle.laws.proofs.Chart.{Map, Covers, Passes, less}
 use Rattle.laws.proofs.Chart as Chart
 use Rattle.laws.proofs.Level.{level-chart}
 use Rattle.laws.proofs.Less.{Alike, less-chart, less-covers, less-level, level-colours}

@@ -18,7 +18,7 @@ use Rattle.laws.specs.Run.{run}
 use Rattle.laws.proofs.Table.{length-table, getD-table, getD-table-past, table-agree}
 use Rattle.laws.proofs.Test.{and-left}
 use Rattle.plane.specs.Size.{within}
-use Rattle.plane.specs.Dart.{mark, points, slots, point, direction, far, reversal}
+use Rattle.plane.specs.Dart.{mark, points, slots, point, direction, far}
 use Rattle.plane.specs.Point.{right, corner}
 use Rattle.plane.proofs.Limit.{within-limits}
 use Rattle.plane.proofs.Darts.{four, direction-below, line-below}
@@ -166,9 +166,6 @@ module _ (w h : ℕ) (on : ℕ → Bool) (l : Lines w h on) where
   pub lines-inside : (d : ℕ) → on d ≡ true → d < slots w h
   lines-inside d e = line-below w h d (l .lined d e)
 
-  pub along-inside : (keep : ℕ → Bool) (d : ℕ) → along w h on keep .on d ≡ true → d < slots w h
-  along-inside keep d e = lines-inside d (along-on keep d e)
-
   -- and are below the mark
   module _ (fits : slots w h ≤ mark) where
     pub dart-small : (d : ℕ) → on d ≡ true → d < mark
@@ -177,16 +174,8 @@ module _ (w h : ℕ) (on : ℕ → Bool) (l : Lines w h on) where
     pub next-small : (d : ℕ) → on d ≡ true → next w on d < mark
     next-small d e = dart-small (next w on d) (next-stays d e)
 
-    pub reversal-small : (d : ℕ) → on d ≡ true → reversal w d < mark
-    reversal-small d e = dart-small (reversal w d) (l .back d e)
-
     -- also where points are passed over
     pub along-next-small : (keep : ℕ → Bool) (d : ℕ) → along w h on keep .on d ≡ true
         → along w h on keep .next d < mark
     unfolding along
     along-next-small keep d e = next-small (last w h on keep d) (last-stays keep d (along-on keep d e))
-
-    pub along-other-small : (keep : ℕ → Bool) (d : ℕ) → along w h on keep .on d ≡ true
-        → along w h on keep .other d < mark
-    unfolding along
-    along-other-small keep d e = reversal-small (last w h on keep d) (last-stays keep d (along-on keep d e))

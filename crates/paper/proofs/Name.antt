@@ -163,9 +163,6 @@ pub beside-below : (w h i j : ℕ) → Beside w h i j → (i < w * h) × (j < w 
 beside-below w h i j (row b p e) = (omega arith, b)
 beside-below w h i j (column b e) = (omega arith, b)
 
-pub chain-below : (w h : ℕ) (s : List ℕ) {i j : ℕ} → Chain w h s i j → i < w * h → j < w * h
-chain-below w h s l = linked-iff (λ i. i < w * h) (λ i j k. beside-below w h i j (k .beside)) l .0
-
 pub record First (w h : ℕ) (s : List ℕ) (i v : ℕ) : Type 0 where
   pub cell : ℕ
   pub named : v ≡ suc cell

@@ -53,9 +53,6 @@ line-below : (w h : ℕ) (on : ℕ → Bool) (p q : ℕ) → Line w h on p q →
 line-below w h on p q (west b e f) = omega arith
 line-below w h on p q (north b e f) = omega arith
 
-pub piece-below : (w h : ℕ) (on : ℕ → Bool) {p q : ℕ} → Piece w h on p q → p < points w h → q < points w h
-piece-below w h on l = linked-iff (λ p. p < points w h) (line-below w h on) l .0
-
 toward : (ℕ → Bool) → ℕ → ℕ → ℕ → ℕ
 toward on k m p = cond (on (dart p k)) (p - m) p
 
@@ -192,12 +189,3 @@ module _ (w h : ℕ) (on : ℕ → Bool) (inside : Inside w h on) where
         low = r .low;
         joined = λ p b. piece-joined w h on (r .piece p b);
       }))
-
--- The west and north darts of the points alone count.
-pub tops-agree : (w h : ℕ) (on off : ℕ → Bool)
-    → ((p : ℕ) → p < points w h → on (dart p 2) ≡ off (dart p 2))
-    → ((p : ℕ) → p < points w h → on (dart p 3) ≡ off (dart p 3))
-    → tops w h on ≡ tops w h off
-unfolding tops
-tops-agree w h on off e f =
-    least-agree (points w h) _ _ _ _ (λ p b. rw (e p b)) (λ p b. rw (f p b))

@@ -8,7 +8,7 @@ use mathlib.Core.List.{List}
 use Prim.Native.Nat.{ℕ, zero, suc, _<_, _≤_}
 use native.Mathlib.Omega.{arith}
 use lib.Dec.{eqb, leb, lit<}
-use borrow.Author.Tests.{ltb-false, leb-false, eqb-true, eqb-false, eq-eqb, ne-eqb, not-true, not-false}
+use borrow.Author.Tests.{ltb-false, leb-false, eqb-true, eqb-false, ne-eqb, not-true, not-false}
 use Rattle.laws.proofs.Chart.{Map, Chart, Few, Colours}
 use Rattle.plane.specs.Dart.{slots, dart, point, direction, far, turned, reversal, stays, line}
 use Rattle.plane.specs.Point.{corner, right, left, parts, present, degree}
@@ -101,9 +101,6 @@ module _ (w h : ℕ) (n : List ℕ) where
 
   pub border-agrees : (d : ℕ) → border w h n d ≡ false → side w h n d ≡ across w h n d
   border-agrees d e = eqb-true (side w h n d) (across w h n d) (not-false _ (sym (border-sides d) ∙ e))
-
-  pub agrees-border : (d : ℕ) → side w h n d ≡ across w h n d → border w h n d ≡ false
-  agrees-border d e = border-sides d ∙ ap not (eq-eqb (side w h n d) (across w h n d) e)
 
   pub differs-border : (d : ℕ) → (side w h n d ≡ across w h n d → ⊥) → border w h n d ≡ true
   differs-border d e = border-sides d ∙ ap not (ne-eqb (side w h n d) (across w h n d) e)

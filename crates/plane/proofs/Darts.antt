@@ -53,10 +53,6 @@ pub turned-round : (k : ℕ) → turned k 4 ≡ turned k 0
 unfolding turned
 turned-round k = omega arith
 
-pub turned-twice : (k : ℕ) → k < 4 → turned (turned k 2) 2 ≡ k
-unfolding turned
-turned-twice k h = omega arith
-
 pub point-reversal : (w d : ℕ) → point (reversal w d) ≡ far w d
 unfolding reversal
 point-reversal w d = point-dart (far w d) (turned (direction d) 2) (turned-below (direction d) 2)

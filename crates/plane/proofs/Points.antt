@@ -8,7 +8,7 @@ use mathlib.Core.List.{List}
 use Prim.Native.Nat.{ℕ, suc, _+_, _*_, _/_, _%_, _<_, _≤_}
 use native.Mathlib.Omega.{arith}
 use lib.Dec.{eqb, lit<, lit≤}
-use borrow.Author.Tests.{eq-eqb, eqb-true, eqb-false, not-true, not-false}
+use borrow.Author.Tests.{eq-eqb, eqb-true, not-false}
 use Rattle.laws.specs.Table.{number}
 use Rattle.plane.specs.Dart.{turned}
 use Rattle.plane.specs.Point.{bits, half, has, right, left, parts, present, degree}
@@ -52,10 +52,6 @@ degree-below m =
 pub left-right : (c : List (List ℕ)) (k : ℕ) → k < 4 → left c k ≡ right c (turned k 3)
 unfolding left right turned
 left-right c = four (λ k. left c k ≡ right c (turned k 3)) refl refl refl refl
-
-pub parts-true : (c : List (List ℕ)) (k : ℕ) → parts c k ≡ true → right c k ≡ left c k → ⊥
-unfolding parts
-parts-true c k e = eqb-false (right c k) (left c k) (not-true _ e)
 
 pub parts-false : (c : List (List ℕ)) (k : ℕ) → parts c k ≡ false → right c k ≡ left c k
 unfolding parts

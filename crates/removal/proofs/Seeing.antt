@@ -2,7 +2,7 @@
 --   at t d, on t d  == the entry of dart d, the mark past the end; that it is not the mark
 --   SeenAt m p b u v == of the lines m at point p: b, they are two; u and v, the darts of the first and of the last
 use mathlib.Core.Path.{_≡_, sym, _∙_, ap}
-use mathlib.Core.Bool.{Bool, true, not}
+use mathlib.Core.Bool.{Bool, true}
 use mathlib.Core.List.{List}
 use Prim.Native.Nat.{ℕ, _+_, _*_, _≤_, _<_, zero-le}
 use native.Mathlib.Nat.{add-zero, one-mul, mul-zero, mul-one, le-refl}

@@ -3,24 +3,23 @@
 --   leaping l f d   == where a chase goes on from dart d
 --   chased t d      == four leaps from d
 use mathlib.Core.Path.{_≡_, refl, sym, _∙_, ap, fun-ext}
-use mathlib.Core.Bool.{Bool, true, false, cond, not, _&&_, _||_}
+use mathlib.Core.Bool.{Bool, true, false, cond, not, _&&_}
 use mathlib.Core.List.{List}
-use mathlib.Core.Logic.{_≢_}
 use Prim.Native.Nat.{ℕ, zero, suc, _≤_, _<_}
 use native.Mathlib.Decide.{decLt}
 use native.Mathlib.Omega.{arith}
 use lib.Dec.{eqb}
 use lib.ListN.{length, getD, List·getD-eq-default}
-use borrow.Author.Tests.{eq-eqb, ne-eqb, eqb-true}
+use borrow.Author.Tests.{eq-eqb, ne-eqb}
 use Rattle.laws.specs.Table.{table, number}
 use Rattle.laws.specs.Run.{run}
 use Rattle.laws.proofs.Table.{getD-table, getD-table-past}
 use Rattle.plane.specs.Dart.{mark, slots}
 use Rattle.paper.specs.Level.{marked}
-use Rattle.paper.specs.Joining.{Links, at, on, between, shared, chase, removed}
+use Rattle.paper.specs.Joining.{Links, at, on, chase, removed}
 use Rattle.removal.specs.Links.{links}
 use Rattle.removal.specs.Taken.{flagged, flags, leap, chased, leaping}
-use Rattle.table.proofs.Entries.{at-in, at-out}
+use Rattle.table.proofs.Entries.{at-in}
 use Rattle.table.proofs.Half.{Half, half-here}
 
 -- A test and its table.

@@ -6,7 +6,6 @@ use Rattle.dropping.specs.Listed.{Watched}
 use Rattle.dropping.proofs.Watching.{Looked, looked-none, looked-more, looked-all, found-hanging}
 use Prim.Native.Nat.{_-_, _/_}
 use native.Mathlib.Omega.{arith}
-use lib.ListN.{length}
 use Rattle.dropping.proofs.near.hangs.Statement.{statement}
 use Rattle.dropping.proofs.near.hangs.Tie as tie
 

@@ -2,7 +2,6 @@ use mathlib.Core.Path.{_∙_}
 use Rattle.plane.specs.Dart.{mark}
 use Prim.Native.Nat.{_-_}
 use native.Mathlib.Omega.{arith}
-use lib.ListN.{length}
 use Rattle.removal.specs.Links.{links}
 use Rattle.dropping.specs.Dropped.{led}
 use Rattle.dropping.specs.Listed.{bounds}

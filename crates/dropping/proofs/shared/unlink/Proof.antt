@@ -2,7 +2,6 @@ use Rattle.dropping.proofs.Leading.{away-keeps, unlink-here}
 use mathlib.Core.Bool.{cond}
 use Prim.Native.Nat.{_-_}
 use native.Mathlib.Omega.{arith}
-use lib.ListN.{length}
 use Rattle.plane.specs.Dart.{mark}
 use Rattle.paper.specs.Joining.{at, shared}
 use Rattle.dropping.specs.Listed.{bounds}
