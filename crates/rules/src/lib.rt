@@ -1,3 +1,2 @@
-// The rules at a point: what the four cells round it tell, the next line, and what it becomes when lines are taken.
-pub mod point;
+// The rules at a point: the next line, and what the point becomes when lines are taken.
 pub mod turn;

@@ -1,8 +1,8 @@
 use native.Mathlib.Nat.{mul-zero, mul-one}
 use native.Mathlib.Omega.{arith}
 use borrow.Author.Tests.{eq-eqb, ne-eqb}
-use Rattle.rules.proofs.point.where_differ.Statement.{statement}
-use Rattle.rules.proofs.point.where_differ.Tie as tie
+use Rattle.round.proofs.point.where_differ.Statement.{statement}
+use Rattle.round.proofs.point.where_differ.Tie as tie
 
 returns : tie.Need-returns
 returns c = simp (eq-eqb _ _ (c .if1 .taken), mul-zero) (omega arith)

@@ -1,8 +1,8 @@
 use native.Mathlib.Nat.{one-mul}
 use Rattle.plane.specs.Point.{bits, corner, right, left, parts, present}
 use borrow.Author.Needs.{needs}
-use Rattle.rules.proofs.point.present.Statement.{statement}
-use Rattle.rules.proofs.point.present.Tie as tie
+use Rattle.round.proofs.point.present.Statement.{statement}
+use Rattle.round.proofs.point.present.Tie as tie
 
 index-1-nw : tie.Need-index-1-nw
 index-1-nw c = search needs
