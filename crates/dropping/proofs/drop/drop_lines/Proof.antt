@@ -2,7 +2,6 @@ use mathlib.Core.Path.{_∙_}
 use Rattle.paper.proofs.Marks.{within-fits}
 use Rattle.dropping.proofs.Dropping.{drop-links}
 use Rattle.dropping.proofs.Watching.{removed-watched}
-use borrow.Author.Needs.{needs}
 use Rattle.dropping.proofs.drop.drop_lines.Statement.{statement}
 use Rattle.dropping.proofs.drop.drop_lines.Tie as tie
 
@@ -26,16 +25,20 @@ prune-requires c κs =
     )
 
 same-length : tie.Need-same-length
-same-length c = search needs
+same-length c =
+    let p = c .before .before .before .before .before .before .before .before in
+    p .prune .kept .1 .1 .1 .1 .0 ∙ p .before .before .before .before .before .before .before .before .before .remove-shared .kept .1 .1 .1 .1 .1 .1 .1 .0
 
 same-length-2 : tie.Need-same-length-2
-same-length-2 c = search needs
+same-length-2 c =
+    let p = c .before .before .before .before .before .before .before .before in
+    p .prune .kept .1 .1 .1 .1 .1 .0 ∙ p .before .before .before .before .before .before .before .before .before .remove-shared .kept .1 .1 .1 .1 .1 .1 .1 .1 .0
 
 same-length-3 : tie.Need-same-length-3
-same-length-3 c = search needs
+same-length-3 c = c .before .before .before .before .before .before .before .before .prune .kept .1 .1 .1 .1 .1 .1 .0
 
 same-length-4 : tie.Need-same-length-4
-same-length-4 c = search needs
+same-length-4 c = c .before .before .before .before .before .before .before .before .prune .kept .1 .1 .1 .1 .1 .1 .1 .0
 
 returns : tie.Need-returns
 returns c = drop-links _ _ _ _ _ _ _ _ _ (c .before .before .before .before .before .before .before .before .before .before .before .before .before .before .before .before .before .remove-shared .ensures) (c .before .before .before .before .before .before .before .before .prune .ensures)

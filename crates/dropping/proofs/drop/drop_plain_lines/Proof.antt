@@ -1,11 +1,10 @@
 use mathlib.Core.Path.{_∙_}
 use Rattle.dropping.proofs.Dropping.{drop-plain}
-use borrow.Author.Needs.{needs}
 use Rattle.dropping.proofs.drop.drop_plain_lines.Statement.{statement}
 use Rattle.dropping.proofs.drop.drop_plain_lines.Tie as tie
 
 fill-reversals-requires : tie.Need-fill-reversals-requires
-fill-reversals-requires c κs = search needs
+fill-reversals-requires c κs = let q = c .before .before .before .before .before .before .before .pre in (q .0, q .6)
 
 drop-lines-requires : tie.Need-drop-lines-requires
 drop-lines-requires c κs =
@@ -25,16 +24,18 @@ drop-lines-requires c κs =
     )
 
 same-length : tie.Need-same-length
-same-length c = search needs
+same-length c = c .before .before .before .before .before .before .before .before .drop-lines .kept .1 .1 .1 .1 .1 .1 .1 .0
 
 same-length-2 : tie.Need-same-length-2
-same-length-2 c = search needs
+same-length-2 c =
+    let d = c .before .before .before .before .before .before .before .before in
+    d .drop-lines .kept .1 .1 .1 .1 .1 .1 .1 .1 .0 ∙ d .before .before .before .before .before .before .before .fill-reversals .kept .1 .1 .0
 
 same-length-3 : tie.Need-same-length-3
-same-length-3 c = search needs
+same-length-3 c = c .before .before .before .before .before .before .before .before .drop-lines .kept .1 .1 .1 .1 .1 .1 .1 .1 .1 .0
 
 same-length-4 : tie.Need-same-length-4
-same-length-4 c = search needs
+same-length-4 c = c .before .before .before .before .before .before .before .before .drop-lines .kept .1 .1 .1 .1 .1 .1 .1 .1 .1 .1 .0
 
 returns : tie.Need-returns
 returns c = drop-plain _ _ _ _ _ _ _ _ _ _ (c .before .before .before .before .before .before .before .before .before .before .before .before .before .before .before .fill-reversals .ensures) (c .before .before .before .before .before .before .before .before .drop-lines .ensures)

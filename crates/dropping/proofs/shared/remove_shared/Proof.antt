@@ -3,7 +3,6 @@ use native.Mathlib.Omega.{arith}
 use lib.ListN.{length}
 use Rattle.dropping.specs.Listed.{bounds, Listed}
 use Rattle.dropping.proofs.Leading.{removed-steps}
-use borrow.Author.Needs.{needs}
 use Rattle.dropping.proofs.shared.remove_shared.Statement.{statement}
 use Rattle.dropping.proofs.shared.remove_shared.Tie as tie
 
@@ -21,13 +20,18 @@ unlink-requires c κs =
     (omega (arith, q .0, e), q .3 ∙ sym e, q .4 ∙ sym e, rw e (q .7))
 
 trim-requires : tie.Need-trim-requires
-trim-requires c κs = search needs
+trim-requires c κs =
+    let u = c .before .before .before .before in
+    let q = u .before .before .before .before .before .before .before .before .before .before .before .before .pre in
+    u .unlink .kept .1 .1 .1 .1 .1 .1 .0 ∙ u .before .before .before .before .before .lead .kept .1 .1 .1 .1 .1 .1 .0 ∙ q .5 ∙ sym (q .6)
 
 same-length : tie.Need-same-length
-same-length c = search needs
+same-length c =
+    let u = c .before .before .before .before .before .before .before in
+    u .unlink .kept .1 .1 .1 .1 .1 .1 .0 ∙ u .before .before .before .before .before .lead .kept .1 .1 .1 .1 .1 .1 .0
 
 same-length-2 : tie.Need-same-length-2
-same-length-2 c = search needs
+same-length-2 c = c .before .before .trim .kept .1 .0
 
 returns : tie.Need-returns
 returns c =
