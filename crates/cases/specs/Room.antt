@@ -6,7 +6,13 @@ use Rattle.cases.specs.declared.lengths.Lengths.{Lengths}
 abbrev pub room : ℕ
 room = 21320
 
-abbrev pub Fits : Lengths → Type 0
-Fits l =
-    (l .next1 ≤ room) × (l .side1 ≤ room) × (l .next3 ≤ room) × (l .other3 ≤ room) × (l .parent ≤ room) ×
-    (l .a ≤ room) × (l .b ≤ room) × (l .c ≤ room) × (l .d ≤ room)
+pub record Fits (l : Lengths) : Type 0 where
+  pub next1 : l .next1 ≤ room
+  pub side1 : l .side1 ≤ room
+  pub next3 : l .next3 ≤ room
+  pub other3 : l .other3 ≤ room
+  pub parent : l .parent ≤ room
+  pub a : l .a ≤ room
+  pub b : l .b ≤ room
+  pub c : l .c ≤ room
+  pub d : l .d ≤ room

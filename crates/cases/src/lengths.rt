@@ -1,6 +1,12 @@
 use crate::lent;
 ghost use Rattle.cases.specs.Room.{Fits};
 
+// The width and the height of a case.
+pub struct Size {
+    pub width: u16,
+    pub height: u16,
+}
+
 // How long the five tables and the four work tables of a case are.
 pub struct Lengths {
     pub next1: usize,
@@ -32,11 +38,11 @@ pub fn given(lengths: &[u16]) -> Lengths
 }
 
 // The stated lengths for a sheet of a size.
-pub fn stated(width: u16, height: u16) -> Lengths
+pub fn stated(size: Size) -> Lengths
     ensures { λ r. ⌜ Fits r ⌝ }
 {
-    let slots = lent::slots(width, height);
-    let names = lent::names(width, height);
+    let slots = lent::slots(size.width, size.height);
+    let names = lent::names(size.width, size.height);
     let lengths = [
         slots,
         slots,

@@ -84,23 +84,6 @@ fn roomy(length: u16) -> usize
     if length < ROOM { length } else { ROOM }
 }
 
-// Sets every entry to what a table holds before a call.
-fn soil_one(table: &mut [u16]) {
-    let mut i = 0;
-    while i < table.len() {
-        table[i] = UNTOUCHED;
-        i += 1;
-    }
-}
-
-// Sets every entry of four tables to what a table holds before a call.
-pub fn soil(a: &mut [u16], b: &mut [u16], c: &mut [u16], d: &mut [u16]) {
-    soil_one(a);
-    soil_one(b);
-    soil_one(c);
-    soil_one(d);
-}
-
 // Copies the entries of a table to the front of another, as many as both have.
 pub fn copy(table: &[u16], to: &mut [u16]) {
     let mut i = 0;
@@ -123,20 +106,6 @@ pub fn all_are(table: &[u16], value: u16) -> bool {
         i += 1;
     }
     true
-}
-
-// Whether each entry of four tables is a value.
-pub fn four_are(a: &[u16], b: &[u16], c: &[u16], d: &[u16], value: u16) -> bool {
-    if !all_are(a, value) {
-        return false;
-    }
-    if !all_are(b, value) {
-        return false;
-    }
-    if !all_are(c, value) {
-        return false;
-    }
-    all_are(d, value)
 }
 
 // A sum with one entry more.

@@ -5,4 +5,5 @@ pub mod lengths;
 pub mod lent;
 pub mod made;
 pub mod show;
+pub mod tables;
 pub mod text;

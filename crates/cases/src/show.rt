@@ -53,22 +53,6 @@ pub fn table(table: &[u16], full: bool) {
     number(lent::sum(table));
 }
 
-// Writes the five tables of a drawing, in full or by their sums.
-pub fn drawing(
-    next1: &[u16],
-    side1: &[u16],
-    next3: &[u16],
-    other3: &[u16],
-    parent: &[u16],
-    full: bool,
-) {
-    table(next1, full);
-    table(side1, full);
-    table(next3, full);
-    table(other3, full);
-    table(parent, full);
-}
-
 // Writes whether what was lent is as it was.
 pub fn kept(kept: bool) {
     if kept {
@@ -79,23 +63,10 @@ pub fn kept(kept: bool) {
 }
 
 // Writes whether the work tables are all 0.
-fn cleared(cleared: bool) {
+pub fn cleared(cleared: bool) {
     if cleared {
         io::write_all(STDOUT_FILENO, b" cleared");
     } else {
         io::write_all(STDOUT_FILENO, b" uncleared");
     }
-}
-
-// Writes whether the work tables are as they were, for the refusals 1 to 4, and else whether they are all 0.
-pub fn work(number: u16, a: &[u16], b: &[u16], c: &[u16], d: &[u16]) {
-    if number == 0 {
-        cleared(lent::four_are(a, b, c, d, 0));
-        return;
-    }
-    if 4 < number {
-        cleared(lent::four_are(a, b, c, d, 0));
-        return;
-    }
-    kept(lent::four_are(a, b, c, d, lent::UNTOUCHED));
 }

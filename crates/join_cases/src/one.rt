@@ -1,132 +1,109 @@
+use cases::lengths::Lengths;
+use cases::lengths::Size;
 use cases::lent;
 use cases::show;
+use cases::tables;
+use cases::tables::Tables;
+use cases::tables::Works;
 use join::regions;
 use table::entry;
 ghost use Prim.Native.Nat.{_≤_};
+ghost use Rattle.cases.specs.Room.{Fits};
 
-// The width and the height of a case.
-pub struct Size {
-    pub width: u16,
-    pub height: u16,
+// What a join answered: its number, and the tables after it.
+pub struct Joined {
+    pub number: u16,
+    pub tables: Tables,
+    pub works: Works,
 }
 
-// The sums of five tables.
-pub struct Sums {
-    pub next1: u64,
-    pub side1: u64,
-    pub next3: u64,
-    pub other3: u64,
-    pub parent: u64,
-}
-
-fn sums_of(next1: &[u16], side1: &[u16], next3: &[u16], other3: &[u16], parent: &[u16]) -> Sums {
-    Sums {
-        next1: lent::sum(next1),
-        side1: lent::sum(side1),
-        next3: lent::sum(next3),
-        other3: lent::sum(other3),
-        parent: lent::sum(parent),
-    }
-}
-
-fn same(sums: Sums, others: Sums) -> bool {
-    if sums.next1 != others.next1 {
-        return false;
-    }
-    if sums.side1 != others.side1 {
-        return false;
-    }
-    if sums.next3 != others.next3 {
-        return false;
-    }
-    if sums.other3 != others.other3 {
-        return false;
-    }
-    sums.parent == others.parent
-}
-
-// What a join answered: its number, and of a refusal whether the five tables have the sums that they had.
-fn show_answer(
-    number: u16,
-    before: Sums,
-    next1: &[u16],
-    side1: &[u16],
-    next3: &[u16],
-    other3: &[u16],
-    parent: &[u16],
-) {
-    show::label(number);
-    if number != 0 {
-        show::kept(same(before, sums_of(next1, side1, next3, other3, parent)));
-    }
-}
-
-// Joins two names, and writes what is answered.
-fn join_once(
-    size: Size,
-    first: u16,
-    second: u16,
-    next1: &mut [u16],
-    side1: &mut [u16],
-    next3: &mut [u16],
-    other3: &mut [u16],
-    parent: &mut [u16],
-    a: &mut [u16],
-    b: &mut [u16],
-    c: &mut [u16],
-    d: &mut [u16],
-) {
-    let before = sums_of(next1, side1, next3, other3, parent);
+// Joins two names in tables of these lengths, with work tables that are not clear.
+pub(crate) fn join(size: Size, first: u16, second: u16, lengths: Lengths, tables: Tables) -> Joined
+    requires { ⌜ Fits lengths ⌝ }
+{
+    let x = lengths.next1;
+    let s = lengths.side1;
+    let y = lengths.next3;
+    let o = lengths.other3;
+    let p = lengths.parent;
+    let ka = lengths.a;
+    let kb = lengths.b;
+    let kc = lengths.c;
+    let kd = lengths.d;
+    let mut next1 = tables.next1;
+    let mut side1 = tables.side1;
+    let mut next3 = tables.next3;
+    let mut other3 = tables.other3;
+    let mut parent = tables.parent;
+    let mut a = [lent::UNTOUCHED; lent::ROOM];
+    let mut b = [lent::UNTOUCHED; lent::ROOM];
+    let mut c = [lent::UNTOUCHED; lent::ROOM];
+    let mut d = [lent::UNTOUCHED; lent::ROOM];
     let answer = regions::join(
         size.width,
         size.height,
-        next1,
-        side1,
-        next3,
-        other3,
-        parent,
+        &mut next1[..x],
+        &mut side1[..s],
+        &mut next3[..y],
+        &mut other3[..o],
+        &mut parent[..p],
         first,
         second,
-        a,
-        b,
-        c,
-        d,
+        &mut a[..ka],
+        &mut b[..kb],
+        &mut c[..kc],
+        &mut d[..kd],
     );
-    let number = answer.number();
-    show_answer(number, before, next1, side1, next3, other3, parent);
-    show::work(number, a, b, c, d);
+    Joined {
+        number: answer.number(),
+        tables: Tables {
+            next1,
+            side1,
+            next3,
+            other3,
+            parent,
+        },
+        works: Works { a, b, c, d },
+    }
 }
 
-// Joins two names, with work tables that are not clear.
-fn join(
-    size: Size,
-    first: u16,
-    second: u16,
-    next1: &mut [u16],
-    side1: &mut [u16],
-    next3: &mut [u16],
-    other3: &mut [u16],
-    parent: &mut [u16],
-    a: &mut [u16],
-    b: &mut [u16],
-    c: &mut [u16],
-    d: &mut [u16],
-) {
-    lent::soil(a, b, c, d);
-    join_once(
-        size,
-        first,
-        second,
-        next1,
-        side1,
-        next3,
-        other3,
-        parent,
-        a,
-        b,
-        c,
-        d,
-    );
+// Whether five tables are the same as five others.
+pub(crate) fn same(tables: Tables, others: Tables) -> bool {
+    if !entry::same(&tables.next1, &others.next1) {
+        return false;
+    }
+    if !entry::same(&tables.side1, &others.side1) {
+        return false;
+    }
+    if !entry::same(&tables.next3, &others.next3) {
+        return false;
+    }
+    if !entry::same(&tables.other3, &others.other3) {
+        return false;
+    }
+    entry::same(&tables.parent, &others.parent)
+}
+
+// Writes what a join answered: its number, of a refusal whether the five tables are as they were, and how the work tables
+// are left.
+fn show_answer(lengths: Lengths, before: Tables, joined: Joined) {
+    let number = joined.number;
+    let tables = joined.tables;
+    let works = joined.works;
+    show::label(number);
+    if number != 0 {
+        show::kept(same(before, tables));
+    }
+    tables::show_works(number, lengths.a, lengths.b, lengths.c, lengths.d, works);
+}
+
+// Joins two names and writes what is answered; gives the tables after it.
+fn join_shown(size: Size, first: u16, second: u16, lengths: Lengths, tables: Tables) -> Tables
+    requires { ⌜ Fits lengths ⌝ }
+{
+    let joined = join(size, first, second, lengths, tables);
+    show_answer(lengths, tables, joined);
+    joined.tables
 }
 
 // How many pairs a list has, at most 30,000.
@@ -140,37 +117,18 @@ fn pairs_of(names: &[u16]) -> u16
     30000
 }
 
-// Joins the names of a list, two by two.
-pub(crate) fn join_all(
-    size: Size,
-    names: &[u16],
-    next1: &mut [u16],
-    side1: &mut [u16],
-    next3: &mut [u16],
-    other3: &mut [u16],
-    parent: &mut [u16],
-    a: &mut [u16],
-    b: &mut [u16],
-    c: &mut [u16],
-    d: &mut [u16],
-) {
+// Joins the names of a list, two by two, and gives the tables after the last join.
+pub(crate) fn join_all(size: Size, names: &[u16], lengths: Lengths, tables: Tables) -> Tables
+    requires { ⌜ Fits lengths ⌝ }
+{
     let pairs = pairs_of(names);
+    let mut joined = tables;
     let mut i: u16 = 0;
     while i < pairs {
-        join(
-            size,
-            entry::get(names, 2 * i),
-            entry::get(names, 2 * i + 1),
-            next1,
-            side1,
-            next3,
-            other3,
-            parent,
-            a,
-            b,
-            c,
-            d,
-        );
+        let first = entry::get(names, 2 * i);
+        let second = entry::get(names, 2 * i + 1);
+        joined = join_shown(size, first, second, lengths, joined);
         i += 1;
     }
+    joined
 }

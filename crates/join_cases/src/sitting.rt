@@ -1,9 +1,11 @@
-use crate::one::Size;
-use cases::lengths;
+use crate::one;
+use crate::tried;
 use cases::lengths::Lengths;
+use cases::lengths::Size;
 use cases::lent;
 use cases::show;
-use join::regions;
+use cases::tables;
+use cases::tables::Tables;
 use plane::dart;
 use plane::dart::Dart;
 use table::entry;
@@ -14,6 +16,12 @@ ghost use Rattle.cases.specs.Room.{Fits};
 pub struct Pace {
     pub every: u16,
     pub stride: u16,
+}
+
+// What a sitting has come to: how many joins were done, and the tables after them.
+pub struct Standing {
+    pub done: u64,
+    pub tables: Tables,
 }
 
 // The names on the two sides of a dart.
@@ -34,6 +42,12 @@ fn sides_of(size: Size, side1: &[u16], number: u16) -> Sides {
         right,
         left: entry::get(side1, back.number),
     }
+}
+
+// The names on the two sides of a dart of the tables that a sitting has come to.
+fn sides_at(size: Size, lengths: Lengths, number: u16, standing: Standing) -> Sides {
+    let tables = standing.tables;
+    sides_of(size, tables::front(&tables.side1, lengths.side1), number)
 }
 
 // Whether regions lie on both sides.
@@ -93,134 +107,12 @@ fn regions_left(parent: &[u16]) -> u16 {
     count
 }
 
-// Whether five tables are the same as five others.
-fn same(
-    next1: &[u16],
-    side1: &[u16],
-    next3: &[u16],
-    other3: &[u16],
-    parent: &[u16],
-    next1_fresh: &[u16],
-    side1_fresh: &[u16],
-    next3_fresh: &[u16],
-    other3_fresh: &[u16],
-    parent_fresh: &[u16],
-) -> bool {
-    if !entry::same(next1, next1_fresh) {
-        return false;
-    }
-    if !entry::same(side1, side1_fresh) {
-        return false;
-    }
-    if !entry::same(next3, next3_fresh) {
-        return false;
-    }
-    if !entry::same(other3, other3_fresh) {
-        return false;
-    }
-    entry::same(parent, parent_fresh)
-}
-
 fn show_same(same: bool) {
     if same {
         show::text(b" same");
     } else {
         show::text(b" differs");
     }
-}
-
-// Draws the names of the cells afresh, and writes whether the tables are those.
-fn compare_fresh(
-    size: Size,
-    names: &[u16],
-    next1: &[u16],
-    side1: &[u16],
-    next3: &[u16],
-    other3: &[u16],
-    parent: &[u16],
-    next1_fresh: &mut [u16],
-    side1_fresh: &mut [u16],
-    next3_fresh: &mut [u16],
-    other3_fresh: &mut [u16],
-    parent_fresh: &mut [u16],
-    a: &mut [u16],
-    b: &mut [u16],
-    c: &mut [u16],
-    d: &mut [u16],
-) {
-    drawing::draw::draw(
-        size.width,
-        size.height,
-        names,
-        next1_fresh,
-        side1_fresh,
-        next3_fresh,
-        other3_fresh,
-        parent_fresh,
-        a,
-        b,
-        c,
-        d,
-    );
-    show_same(same(
-        next1,
-        side1,
-        next3,
-        other3,
-        parent,
-        next1_fresh,
-        side1_fresh,
-        next3_fresh,
-        other3_fresh,
-        parent_fresh,
-    ));
-}
-
-// Compares the tables with those drawn afresh, which have these lengths.
-fn compare(
-    size: Size,
-    lengths: Lengths,
-    names: &[u16],
-    next1: &[u16],
-    side1: &[u16],
-    next3: &[u16],
-    other3: &[u16],
-    parent: &[u16],
-    a: &mut [u16],
-    b: &mut [u16],
-    c: &mut [u16],
-    d: &mut [u16],
-)
-    requires { ⌜ Fits lengths ⌝ }
-{
-    let x = lengths.next1;
-    let s = lengths.side1;
-    let y = lengths.next3;
-    let o = lengths.other3;
-    let p = lengths.parent;
-    let mut next1_fresh = [lent::UNTOUCHED; lent::ROOM];
-    let mut side1_fresh = [lent::UNTOUCHED; lent::ROOM];
-    let mut next3_fresh = [lent::UNTOUCHED; lent::ROOM];
-    let mut other3_fresh = [lent::UNTOUCHED; lent::ROOM];
-    let mut parent_fresh = [lent::UNTOUCHED; lent::ROOM];
-    compare_fresh(
-        size,
-        names,
-        next1,
-        side1,
-        next3,
-        other3,
-        parent,
-        &mut next1_fresh[..x],
-        &mut side1_fresh[..s],
-        &mut next3_fresh[..y],
-        &mut other3_fresh[..o],
-        &mut parent_fresh[..p],
-        a,
-        b,
-        c,
-        d,
-    );
 }
 
 fn show_count(done: u64, left: u16) {
@@ -231,36 +123,16 @@ fn show_count(done: u64, left: u16) {
 
 // Writes how a sitting stands: how many joins were done, how many regions are left, whether the tables are those drawn
 // afresh, and their sums.
-fn show_standing(
-    size: Size,
-    done: u64,
-    names: &[u16],
-    next1: &[u16],
-    side1: &[u16],
-    next3: &[u16],
-    other3: &[u16],
-    parent: &[u16],
-    a: &mut [u16],
-    b: &mut [u16],
-    c: &mut [u16],
-    d: &mut [u16],
-) {
-    show_count(done, regions_left(parent));
-    compare(
-        size,
-        lengths::stated(size.width, size.height),
-        names,
-        next1,
-        side1,
-        next3,
-        other3,
-        parent,
-        a,
-        b,
-        c,
-        d,
+fn show_standing(size: Size, lengths: Lengths, names: &[u16], standing: Standing)
+    requires { ⌜ Fits lengths ⌝ }
+{
+    let tables = standing.tables;
+    show_count(
+        standing.done,
+        regions_left(tables::front(&tables.parent, lengths.parent)),
     );
-    show::drawing(next1, side1, next3, other3, parent, false);
+    show_same(one::same(tables, tried::draw(size, names, lengths)));
+    tables::show(lengths, tables, false);
 }
 
 // Whether so many joins are a multiple of a number.
@@ -271,121 +143,58 @@ fn is_due(done: u64, every: u16) -> bool {
     done % every as u64 == 0
 }
 
-// Joins the regions on the two sides of a dart, and answers whether it was done.
-fn join_sides(
-    size: Size,
-    sides: Sides,
-    next1: &mut [u16],
-    side1: &mut [u16],
-    next3: &mut [u16],
-    other3: &mut [u16],
-    parent: &mut [u16],
-    a: &mut [u16],
-    b: &mut [u16],
-    c: &mut [u16],
-    d: &mut [u16],
-) -> bool {
-    let answer = regions::join(
-        size.width,
-        size.height,
-        next1,
-        side1,
-        next3,
-        other3,
-        parent,
-        sides.right,
-        sides.left,
-        a,
-        b,
-        c,
-        d,
-    );
-    if answer.number() != 0 {
-        show::text(b"\nrefused");
-        show::label(answer.number());
-        return false;
-    }
-    true
-}
-
 // Writes how a sitting stands, where that is due.
-fn stand(
-    size: Size,
-    every: u16,
-    done: u64,
-    names: &[u16],
-    next1: &[u16],
-    side1: &[u16],
-    next3: &[u16],
-    other3: &[u16],
-    parent: &[u16],
-    a: &mut [u16],
-    b: &mut [u16],
-    c: &mut [u16],
-    d: &mut [u16],
-) {
-    if is_due(done, every) {
-        show_standing(
-            size,
-            done,
-            names,
-            next1,
-            side1,
-            next3,
-            other3,
-            parent,
-            a,
-            b,
-            c,
-            d,
-        );
+fn stand(size: Size, lengths: Lengths, every: u16, names: &[u16], standing: Standing)
+    requires { ⌜ Fits lengths ⌝ }
+{
+    if is_due(standing.done, every) {
+        show_standing(size, lengths, names, standing);
     }
 }
 
-// One turn of a sitting, at a dart: answers how many joins were done with it.
+// Joins the regions on the two sides of a dart.
+fn join_sides(size: Size, lengths: Lengths, sides: Sides, standing: Standing) -> Standing
+    requires { ⌜ Fits lengths × (standing .done < 4294967296) ⌝ }
+    ensures { λ r. ⌜ r .done ≤ standing .done + 1 ⌝ }
+{
+    let tables = standing.tables;
+    let joined = one::join(size, sides.right, sides.left, lengths, tables);
+    let after = joined.tables;
+    if joined.number != 0 {
+        show::text(b"\nrefused");
+        show::label(joined.number);
+        return Standing {
+            done: standing.done,
+            tables: after,
+        };
+    }
+    Standing {
+        done: standing.done + 1,
+        tables: after,
+    }
+}
+
+// One turn of a sitting, at a dart.
 fn turn(
     size: Size,
+    lengths: Lengths,
     number: u16,
     every: u16,
-    done: u64,
     names: &mut [u16],
-    next1: &mut [u16],
-    side1: &mut [u16],
-    next3: &mut [u16],
-    other3: &mut [u16],
-    parent: &mut [u16],
-    a: &mut [u16],
-    b: &mut [u16],
-    c: &mut [u16],
-    d: &mut [u16],
-) -> u64
-    requires { ⌜ done < 4294967296 ⌝ }
-    ensures { λ r. ⌜ r ≤ done + 1 ⌝ }
+    standing: Standing,
+) -> Standing
+    requires { ⌜ Fits lengths × (standing .done < 4294967296) ⌝ }
+    ensures { λ r. ⌜ r .done ≤ standing .done + 1 ⌝ }
 {
-    let now = done + 1;
-    let sides = sides_of(size, side1, number);
+    let sides = sides_at(size, lengths, number, standing);
     if !are_regions(sides) {
-        return done;
+        return standing;
     }
-    if !join_sides(size, sides, next1, side1, next3, other3, parent, a, b, c, d) {
-        return done;
+    let now = join_sides(size, lengths, sides, standing);
+    if now.done != standing.done {
+        lower(sides, names);
+        stand(size, lengths, every, names, now);
     }
-    lower(sides, names);
-    stand(
-        size,
-        every,
-        now,
-        names,
-        next1,
-        side1,
-        next3,
-        other3,
-        parent,
-        a,
-        b,
-        c,
-        d,
-    );
     now
 }
 
@@ -398,56 +207,17 @@ fn stride_on(number: u16, stride: u16, slots: u16) -> u16 {
 }
 
 // A sitting over a drawing: every slot is visited, each a stride after the one before.
-pub(crate) fn sit(
-    size: Size,
-    pace: Pace,
-    names: &mut [u16],
-    next1: &mut [u16],
-    side1: &mut [u16],
-    next3: &mut [u16],
-    other3: &mut [u16],
-    parent: &mut [u16],
-    a: &mut [u16],
-    b: &mut [u16],
-    c: &mut [u16],
-    d: &mut [u16],
-) {
+pub(crate) fn sit(size: Size, lengths: Lengths, pace: Pace, names: &mut [u16], tables: Tables)
+    requires { ⌜ Fits lengths ⌝ }
+{
     let slots = lent::slots(size.width, size.height);
+    let mut standing = Standing { done: 0, tables };
     let mut number: u16 = 0;
-    let mut done: u64 = 0;
     let mut i: u16 = 0;
     while i < slots {
-        done = turn(
-            size,
-            number,
-            pace.every,
-            done,
-            names,
-            next1,
-            side1,
-            next3,
-            other3,
-            parent,
-            a,
-            b,
-            c,
-            d,
-        );
+        standing = turn(size, lengths, number, pace.every, names, standing);
         number = stride_on(number, pace.stride, slots);
         i += 1;
     }
-    show_standing(
-        size,
-        done,
-        names,
-        next1,
-        side1,
-        next3,
-        other3,
-        parent,
-        a,
-        b,
-        c,
-        d,
-    );
+    show_standing(size, lengths, names, standing);
 }
