@@ -44,12 +44,6 @@ fn sides_of(size: Size, side1: &[u16], number: u16) -> Sides {
     }
 }
 
-// The names on the two sides of a dart of the tables that a sitting has come to.
-fn sides_at(size: Size, lengths: Lengths, number: u16, standing: Standing) -> Sides {
-    let tables = standing.tables;
-    sides_of(size, tables::front(&tables.side1, lengths.side1), number)
-}
-
 // Whether regions lie on both sides.
 fn are_regions(sides: Sides) -> bool {
     if sides.right == 0 {
@@ -115,6 +109,11 @@ fn show_same(same: bool) {
     }
 }
 
+fn show_refusal(number: u16) {
+    show::text(b"\nrefused");
+    show::label(number);
+}
+
 fn show_count(done: u64, left: u16) {
     show::text(b"\nsitting");
     show::number(done);
@@ -143,57 +142,33 @@ fn is_due(done: u64, every: u16) -> bool {
     done % every as u64 == 0
 }
 
-// Writes how a sitting stands, where that is due.
-fn stand(size: Size, lengths: Lengths, every: u16, names: &[u16], standing: Standing)
-    requires { ⌜ Fits lengths ⌝ }
-{
-    if is_due(standing.done, every) {
-        show_standing(size, lengths, names, standing);
-    }
-}
-
-// Joins the regions on the two sides of a dart.
-fn join_sides(size: Size, lengths: Lengths, sides: Sides, standing: Standing) -> Standing
-    requires { ⌜ Fits lengths × (standing .done < 4294967296) ⌝ }
-    ensures { λ r. ⌜ r .done ≤ standing .done + 1 ⌝ }
-{
-    let tables = standing.tables;
-    let joined = one::join(size, sides.right, sides.left, lengths, tables);
-    let after = joined.tables;
-    if joined.number != 0 {
-        show::text(b"\nrefused");
-        show::label(joined.number);
-        return Standing {
-            done: standing.done,
-            tables: after,
-        };
-    }
-    Standing {
-        done: standing.done + 1,
-        tables: after,
-    }
-}
-
-// One turn of a sitting, at a dart.
+// Joins the regions on the two sides of a dart, and writes how the sitting stands where that is due.
 fn turn(
     size: Size,
     lengths: Lengths,
-    number: u16,
     every: u16,
+    sides: Sides,
     names: &mut [u16],
     standing: Standing,
 ) -> Standing
     requires { ⌜ Fits lengths × (standing .done < 4294967296) ⌝ }
     ensures { λ r. ⌜ r .done ≤ standing .done + 1 ⌝ }
 {
-    let sides = sides_at(size, lengths, number, standing);
-    if !are_regions(sides) {
-        return standing;
+    let before = standing.tables;
+    let joined = one::join(size, sides.right, sides.left, lengths, before);
+    let tables = joined.tables;
+    if joined.number != 0 {
+        show_refusal(joined.number);
+        return Standing {
+            done: standing.done,
+            tables,
+        };
     }
-    let now = join_sides(size, lengths, sides, standing);
-    if now.done != standing.done {
-        lower(sides, names);
-        stand(size, lengths, every, names, now);
+    lower(sides, names);
+    let done = standing.done + 1;
+    let now = Standing { done, tables };
+    if is_due(done, every) {
+        show_standing(size, lengths, names, now);
     }
     now
 }
@@ -215,9 +190,13 @@ pub(crate) fn sit(size: Size, lengths: Lengths, pace: Pace, names: &mut [u16], t
     let mut number: u16 = 0;
     let mut i: u16 = 0;
     while i < slots {
-        standing = turn(size, lengths, number, pace.every, names, standing);
+        let side1 = tables::front(&standing.tables.side1, lengths.side1);
+        let sides = sides_of(size, side1, number);
         number = stride_on(number, pace.stride, slots);
         i += 1;
+        if are_regions(sides) {
+            standing = turn(size, lengths, pace.every, sides, names, standing);
+        }
     }
     show_standing(size, lengths, names, standing);
 }

@@ -17,8 +17,11 @@ slots-requires c κs = search needs
 loop-holds : tie.Need-loop-holds Inv-loop μ-loop
 loop-holds c = search needs
 
-turn-requires : tie.Need-turn-requires Inv-loop μ-loop
-turn-requires c κs = search needs
+front-requires : tie.Need-front-requires Inv-loop μ-loop
+front-requires c κs = search needs
+
+sides-of-requires : tie.Need-sides-of-requires Inv-loop μ-loop
+sides-of-requires c κs = search needs
 
 stride-on-requires : tie.Need-stride-on-requires Inv-loop μ-loop
 stride-on-requires c κs = search needs
@@ -26,11 +29,23 @@ stride-on-requires c κs = search needs
 add-i : tie.Need-add-i Inv-loop μ-loop
 add-i c = search needs
 
+are-regions-requires : tie.Need-are-regions-requires Inv-loop μ-loop
+are-regions-requires c κs = search needs
+
+turn-requires : tie.Need-turn-requires Inv-loop μ-loop
+turn-requires c κs = search needs
+
 loop-less : tie.Need-loop-less Inv-loop μ-loop
 loop-less c = search needs
 
 loop-again : tie.Need-loop-again Inv-loop μ-loop
 loop-again c = search needs
+
+loop-less-2 : tie.Need-loop-less-2 Inv-loop μ-loop
+loop-less-2 c = search needs
+
+loop-again-2 : tie.Need-loop-again-2 Inv-loop μ-loop
+loop-again-2 c = search needs
 
 show-standing-requires : tie.Need-show-standing-requires Inv-loop μ-loop
 show-standing-requires c κs = search needs
@@ -49,11 +64,16 @@ sit-spec =
     μ-loop
     slots-requires
     loop-holds
-    turn-requires
+    front-requires
+    sides-of-requires
     stride-on-requires
     add-i
+    are-regions-requires
+    turn-requires
     loop-less
     loop-again
+    loop-less-2
+    loop-again-2
     show-standing-requires
     same-length
     returns)
