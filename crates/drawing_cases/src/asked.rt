@@ -1,48 +1,94 @@
+use cases::lengths::Lengths;
+use cases::lengths::Size;
 use cases::lent;
 use cases::show;
+use cases::tables;
+use cases::tables::Tables;
+use cases::tables::Works;
 use counts::count;
 use counts::count::Count;
 use plane::dart;
 use verdict::judge;
+ghost use Prim.Native.Nat.{_≤_};
+ghost use Rattle.cases.specs.Room.{room, Fits};
 
-// The width and the height of a case.
-pub struct Size {
-    pub width: u16,
-    pub height: u16,
+// What the judge answered: its number, and the work tables after it.
+pub struct Judged {
+    pub number: u16,
+    pub works: Works,
 }
 
-// What the judge answers.
-pub(crate) fn judge(
-    size: Size,
-    next1: &[u16],
-    side1: &[u16],
-    next3: &[u16],
-    other3: &[u16],
-    parent: &[u16],
-    a: &mut [u16],
-    b: &mut [u16],
-    c: &mut [u16],
-    d: &mut [u16],
-) {
-    lent::soil(a, b, c, d);
+// What the counts of all names answered: the number, and the tables after it.
+pub struct Tallied {
+    pub number: u16,
+    pub depths: [u16; lent::ROOM],
+    pub holes: [u16; lent::ROOM],
+    pub works: Works,
+}
+
+// What the count of a name answered: the number, the count, which is the mark for a refusal, and the work tables after it.
+pub struct Counted {
+    pub number: u16,
+    pub count: u16,
+    pub works: Works,
+}
+
+// Asks the judge of tables of these lengths, with work tables that are not clear.
+fn judge_of(size: Size, lengths: Lengths, tables: Tables) -> Judged
+    requires { ⌜ Fits lengths ⌝ }
+{
+    let x = lengths.next1;
+    let s = lengths.side1;
+    let y = lengths.next3;
+    let o = lengths.other3;
+    let p = lengths.parent;
+    let ka = lengths.a;
+    let kb = lengths.b;
+    let kc = lengths.c;
+    let kd = lengths.d;
+    let next1 = tables.next1;
+    let side1 = tables.side1;
+    let next3 = tables.next3;
+    let other3 = tables.other3;
+    let parent = tables.parent;
+    let mut a = [lent::UNTOUCHED; lent::ROOM];
+    let mut b = [lent::UNTOUCHED; lent::ROOM];
+    let mut c = [lent::UNTOUCHED; lent::ROOM];
+    let mut d = [lent::UNTOUCHED; lent::ROOM];
     let answer = judge::check(
         size.width,
         size.height,
-        next1,
-        side1,
-        next3,
-        other3,
-        parent,
-        a,
-        b,
-        c,
-        d,
+        &next1[..x],
+        &side1[..s],
+        &next3[..y],
+        &other3[..o],
+        &parent[..p],
+        &mut a[..ka],
+        &mut b[..kb],
+        &mut c[..kc],
+        &mut d[..kd],
     );
-    let number = answer.number();
-    show::text(b"judge");
-    show::label(number);
-    show::work(number, a, b, c, d);
+    Judged {
+        number: answer.number(),
+        works: Works { a, b, c, d },
+    }
+}
+
+// Writes how the work tables are left, and ends the line.
+fn show_end(number: u16, lengths: Lengths, works: Works) {
+    tables::show_works(number, lengths.a, lengths.b, lengths.c, lengths.d, works);
     show::line_end();
+}
+
+// What the judge answers.
+pub(crate) fn judge(size: Size, lengths: Lengths, tables: Tables)
+    requires { ⌜ Fits lengths ⌝ }
+{
+    let judged = judge_of(size, lengths, tables);
+    let works = judged.works;
+    show::text(b"judge");
+    show::label(judged.number);
+    show_end(judged.number, lengths, works);
 }
 
 // Writes name, depth and hole count of each name that has them.
@@ -68,244 +114,221 @@ fn show_one(name: u16, depth: u16, holes: u16) {
     show::label(holes);
 }
 
-// Depth and hole count of all names, each in full or by the sums of the two tables; of a refusal, whether the two are as
-// they were.
-fn show_counts(number: u16, depths: &[u16], holes: &[u16], full: bool) {
-    if number != 0 {
-        show::kept(lent::all_are(depths, lent::UNTOUCHED));
-        show::kept(lent::all_are(holes, lent::UNTOUCHED));
-        return;
-    }
-    if full {
-        show_each(depths, holes);
-        return;
-    }
-    show::table(depths, false);
-    show::table(holes, false);
-}
-
-// Counts all names into two tables lent, and writes what is answered.
-fn count_all(
-    size: Size,
-    full: bool,
-    next1: &[u16],
-    side1: &[u16],
-    next3: &[u16],
-    other3: &[u16],
-    parent: &[u16],
-    depths: &mut [u16],
-    holes: &mut [u16],
-    a: &mut [u16],
-    b: &mut [u16],
-    c: &mut [u16],
-    d: &mut [u16],
-) {
+// Counts all names of tables of these lengths into two tables of a length each, with work tables that are not clear.
+fn counts_of(size: Size, m: usize, h: usize, lengths: Lengths, tables: Tables) -> Tallied
+    requires { ⌜ Fits lengths × (m ≤ room) × (h ≤ room) ⌝ }
+{
+    let x = lengths.next1;
+    let s = lengths.side1;
+    let y = lengths.next3;
+    let o = lengths.other3;
+    let p = lengths.parent;
+    let ka = lengths.a;
+    let kb = lengths.b;
+    let kc = lengths.c;
+    let kd = lengths.d;
+    let next1 = tables.next1;
+    let side1 = tables.side1;
+    let next3 = tables.next3;
+    let other3 = tables.other3;
+    let parent = tables.parent;
+    let mut depths = [lent::UNTOUCHED; lent::ROOM];
+    let mut holes = [lent::UNTOUCHED; lent::ROOM];
+    let mut a = [lent::UNTOUCHED; lent::ROOM];
+    let mut b = [lent::UNTOUCHED; lent::ROOM];
+    let mut c = [lent::UNTOUCHED; lent::ROOM];
+    let mut d = [lent::UNTOUCHED; lent::ROOM];
     let answer = count::counts(
         size.width,
         size.height,
-        next1,
-        side1,
-        next3,
-        other3,
-        parent,
+        &next1[..x],
+        &side1[..s],
+        &next3[..y],
+        &other3[..o],
+        &parent[..p],
+        &mut depths[..m],
+        &mut holes[..h],
+        &mut a[..ka],
+        &mut b[..kb],
+        &mut c[..kc],
+        &mut d[..kd],
+    );
+    Tallied {
+        number: answer.number(),
         depths,
         holes,
-        a,
-        b,
-        c,
-        d,
-    );
-    let number = answer.number();
-    show::text(b"counts");
-    show::label(number);
-    show_counts(number, depths, holes, full);
-    show::work(number, a, b, c, d);
-    show::line_end();
-}
-
-// What the counts of all names answer, with work tables that are not clear.
-pub(crate) fn counts(
-    size: Size,
-    full: bool,
-    next1: &[u16],
-    side1: &[u16],
-    next3: &[u16],
-    other3: &[u16],
-    parent: &[u16],
-    depths: &mut [u16],
-    holes: &mut [u16],
-    a: &mut [u16],
-    b: &mut [u16],
-    c: &mut [u16],
-    d: &mut [u16],
-) {
-    lent::soil(a, b, c, d);
-    count_all(
-        size,
-        full,
-        next1,
-        side1,
-        next3,
-        other3,
-        parent,
-        depths,
-        holes,
-        a,
-        b,
-        c,
-        d,
-    );
-}
-
-// Writes the number of an answer, and the count where there is one.
-fn show_answer(answer: Count) {
-    show::label(answer.number());
-    if let Count::Is(count) = answer {
-        show::label(count);
+        works: Works { a, b, c, d },
     }
 }
 
-// What the depth of a name answers.
-pub(crate) fn depth(
-    size: Size,
-    name: u16,
-    next1: &[u16],
-    side1: &[u16],
-    next3: &[u16],
-    other3: &[u16],
-    parent: &[u16],
-    a: &mut [u16],
-    b: &mut [u16],
-    c: &mut [u16],
-    d: &mut [u16],
-) {
-    lent::soil(a, b, c, d);
-    let answer = count::depth(
-        size.width,
-        size.height,
-        next1,
-        side1,
-        next3,
-        other3,
-        parent,
-        name,
-        a,
-        b,
-        c,
-        d,
-    );
-    show::text(b"depth");
-    show_answer(answer);
-    show::work(answer.number(), a, b, c, d);
-    show::line_end();
+// Depth and hole count of all names, each in full or by the sums of the two tables; of a refusal, whether the two are as
+// they were.
+fn show_tally(m: usize, h: usize, full: bool, tallied: Tallied) {
+    if tallied.number != 0 {
+        show::kept(tables::untouched(&tallied.depths));
+        show::kept(tables::untouched(&tallied.holes));
+        return;
+    }
+    let depths = tallied.depths;
+    let holes = tallied.holes;
+    if full {
+        show_each(tables::front(&depths, m), tables::front(&holes, h));
+        return;
+    }
+    show::table(tables::front(&depths, m), false);
+    show::table(tables::front(&holes, h), false);
 }
 
-// What the hole count of a name answers.
-pub(crate) fn holes(
-    size: Size,
-    name: u16,
-    next1: &[u16],
-    side1: &[u16],
-    next3: &[u16],
-    other3: &[u16],
-    parent: &[u16],
-    a: &mut [u16],
-    b: &mut [u16],
-    c: &mut [u16],
-    d: &mut [u16],
-) {
-    lent::soil(a, b, c, d);
-    let answer = count::holes(
-        size.width,
-        size.height,
-        next1,
-        side1,
-        next3,
-        other3,
-        parent,
-        name,
-        a,
-        b,
-        c,
-        d,
-    );
-    show::text(b"holes");
-    show_answer(answer);
-    show::work(answer.number(), a, b, c, d);
-    show::line_end();
+// What the counts of all names answer, in two tables of a length each.
+pub(crate) fn counts(size: Size, full: bool, m: usize, h: usize, lengths: Lengths, tables: Tables)
+    requires { ⌜ Fits lengths × (m ≤ room) × (h ≤ room) ⌝ }
+{
+    let tallied = counts_of(size, m, h, lengths, tables);
+    let works = tallied.works;
+    show::text(b"counts");
+    show::label(tallied.number);
+    show_tally(m, h, full, tallied);
+    show_end(tallied.number, lengths, works);
 }
 
 // The count of an answer, the mark for a refusal.
-fn counted(answer: Count) -> u16 {
+fn count_of(answer: Count) -> u16 {
     if let Count::Is(count) = answer {
         return count;
     }
     dart::MARK
 }
 
+// Writes the number of an answer, the count where there is one, and how the work tables are left.
+fn show_counted(lengths: Lengths, counted: Counted) {
+    let works = counted.works;
+    show::label(counted.number);
+    if counted.number == 0 {
+        show::label(counted.count);
+    }
+    show_end(counted.number, lengths, works);
+}
+
+// Asks for the depth of a name in tables of these lengths, with work tables that are not clear.
+fn depth_of(size: Size, name: u16, lengths: Lengths, tables: Tables) -> Counted
+    requires { ⌜ Fits lengths ⌝ }
+{
+    let x = lengths.next1;
+    let s = lengths.side1;
+    let y = lengths.next3;
+    let o = lengths.other3;
+    let p = lengths.parent;
+    let ka = lengths.a;
+    let kb = lengths.b;
+    let kc = lengths.c;
+    let kd = lengths.d;
+    let next1 = tables.next1;
+    let side1 = tables.side1;
+    let next3 = tables.next3;
+    let other3 = tables.other3;
+    let parent = tables.parent;
+    let mut a = [lent::UNTOUCHED; lent::ROOM];
+    let mut b = [lent::UNTOUCHED; lent::ROOM];
+    let mut c = [lent::UNTOUCHED; lent::ROOM];
+    let mut d = [lent::UNTOUCHED; lent::ROOM];
+    let answer = count::depth(
+        size.width,
+        size.height,
+        &next1[..x],
+        &side1[..s],
+        &next3[..y],
+        &other3[..o],
+        &parent[..p],
+        name,
+        &mut a[..ka],
+        &mut b[..kb],
+        &mut c[..kc],
+        &mut d[..kd],
+    );
+    Counted {
+        number: answer.number(),
+        count: count_of(answer),
+        works: Works { a, b, c, d },
+    }
+}
+
+// What the depth of a name answers.
+pub(crate) fn depth(size: Size, name: u16, lengths: Lengths, tables: Tables)
+    requires { ⌜ Fits lengths ⌝ }
+{
+    show::text(b"depth");
+    show_counted(lengths, depth_of(size, name, lengths, tables));
+}
+
+// Asks for the hole count of a name in tables of these lengths, with work tables that are not clear.
+fn holes_of(size: Size, name: u16, lengths: Lengths, tables: Tables) -> Counted
+    requires { ⌜ Fits lengths ⌝ }
+{
+    let x = lengths.next1;
+    let s = lengths.side1;
+    let y = lengths.next3;
+    let o = lengths.other3;
+    let p = lengths.parent;
+    let ka = lengths.a;
+    let kb = lengths.b;
+    let kc = lengths.c;
+    let kd = lengths.d;
+    let next1 = tables.next1;
+    let side1 = tables.side1;
+    let next3 = tables.next3;
+    let other3 = tables.other3;
+    let parent = tables.parent;
+    let mut a = [lent::UNTOUCHED; lent::ROOM];
+    let mut b = [lent::UNTOUCHED; lent::ROOM];
+    let mut c = [lent::UNTOUCHED; lent::ROOM];
+    let mut d = [lent::UNTOUCHED; lent::ROOM];
+    let answer = count::holes(
+        size.width,
+        size.height,
+        &next1[..x],
+        &side1[..s],
+        &next3[..y],
+        &other3[..o],
+        &parent[..p],
+        name,
+        &mut a[..ka],
+        &mut b[..kb],
+        &mut c[..kc],
+        &mut d[..kd],
+    );
+    Counted {
+        number: answer.number(),
+        count: count_of(answer),
+        works: Works { a, b, c, d },
+    }
+}
+
+// What the hole count of a name answers.
+pub(crate) fn holes(size: Size, name: u16, lengths: Lengths, tables: Tables)
+    requires { ⌜ Fits lengths ⌝ }
+{
+    show::text(b"holes");
+    show_counted(lengths, holes_of(size, name, lengths, tables));
+}
+
 // Writes a name with its depth and its hole count, each asked for, where it has them.
-fn name(
-    size: Size,
-    name: u16,
-    next1: &[u16],
-    side1: &[u16],
-    next3: &[u16],
-    other3: &[u16],
-    parent: &[u16],
-    a: &mut [u16],
-    b: &mut [u16],
-    c: &mut [u16],
-    d: &mut [u16],
-) {
-    let depth = count::depth(
-        size.width,
-        size.height,
-        next1,
-        side1,
-        next3,
-        other3,
-        parent,
-        name,
-        a,
-        b,
-        c,
-        d,
-    );
-    let holes = count::holes(
-        size.width,
-        size.height,
-        next1,
-        side1,
-        next3,
-        other3,
-        parent,
-        name,
-        a,
-        b,
-        c,
-        d,
-    );
-    show_one(name, counted(depth), counted(holes));
+fn name(size: Size, name: u16, lengths: Lengths, tables: Tables)
+    requires { ⌜ Fits lengths ⌝ }
+{
+    let depth = depth_of(size, name, lengths, tables);
+    let holes = holes_of(size, name, lengths, tables);
+    show_one(name, depth.count, holes.count);
 }
 
 // Writes each name that has a depth and a hole count, asked for one by one.
-pub(crate) fn names(
-    size: Size,
-    next1: &[u16],
-    side1: &[u16],
-    next3: &[u16],
-    other3: &[u16],
-    parent: &[u16],
-    a: &mut [u16],
-    b: &mut [u16],
-    c: &mut [u16],
-    d: &mut [u16],
-) {
+pub(crate) fn names(size: Size, lengths: Lengths, tables: Tables)
+    requires { ⌜ Fits lengths ⌝ }
+{
     show::text(b"names");
     let count = lent::names(size.width, size.height);
     let mut i: u16 = 0;
     while i < count {
-        name(size, i, next1, side1, next3, other3, parent, a, b, c, d);
+        name(size, i, lengths, tables);
         i += 1;
     }
     show::line_end();

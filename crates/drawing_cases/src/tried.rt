@@ -1,150 +1,26 @@
 use crate::asked;
-use crate::asked::Size;
 use crate::given;
 use cases::lengths;
 use cases::lengths::Lengths;
+use cases::lengths::Size;
 use cases::lent;
 use cases::made;
 use cases::show;
+use cases::tables;
+use cases::tables::Tables;
+use cases::tables::Works;
 use table::entry;
 ghost use Rattle.cases.specs.Room.{Fits};
 
-// Whether the five tables are as they were.
-fn untouched(next1: &[u16], side1: &[u16], next3: &[u16], other3: &[u16], parent: &[u16]) -> bool {
-    if !lent::four_are(next1, side1, next3, other3, lent::UNTOUCHED) {
-        return false;
-    }
-    lent::all_are(parent, lent::UNTOUCHED)
-}
-
-// The five tables of a sheet that was drawn, in full or their sums; of a refusal, whether they are as they were.
-fn show_tables(
-    number: u16,
-    next1: &[u16],
-    side1: &[u16],
-    next3: &[u16],
-    other3: &[u16],
-    parent: &[u16],
-    full: bool,
-) {
-    if number == 0 {
-        show::drawing(next1, side1, next3, other3, parent, full);
-        return;
-    }
-    show::kept(untouched(next1, side1, next3, other3, parent));
-}
-
-// What is asked of a drawing that was made: the counts of all names, and of each name where it is written in full.
-fn ask(
-    size: Size,
-    full: bool,
-    next1: &[u16],
-    side1: &[u16],
-    next3: &[u16],
-    other3: &[u16],
-    parent: &[u16],
-    a: &mut [u16],
-    b: &mut [u16],
-    c: &mut [u16],
-    d: &mut [u16],
-) {
-    let mut depths = made::room();
-    let mut holes = made::room();
-    let n = lent::most(parent.len(), &depths);
-    asked::counts(
-        size,
-        full,
-        next1,
-        side1,
-        next3,
-        other3,
-        parent,
-        &mut depths[..n],
-        &mut holes[..n],
-        a,
-        b,
-        c,
-        d,
-    );
-    if full {
-        asked::names(size, next1, side1, next3, other3, parent, a, b, c, d);
-    }
-}
-
-// Draws a sheet into these tables, and answers the refusal's number.
-fn draw_once(
-    size: Size,
-    sheet: &[u16],
-    full: bool,
-    next1: &mut [u16],
-    side1: &mut [u16],
-    next3: &mut [u16],
-    other3: &mut [u16],
-    parent: &mut [u16],
-    a: &mut [u16],
-    b: &mut [u16],
-    c: &mut [u16],
-    d: &mut [u16],
-) -> u16 {
-    let answer = drawing::draw::draw(
-        size.width,
-        size.height,
-        sheet,
-        next1,
-        side1,
-        next3,
-        other3,
-        parent,
-        a,
-        b,
-        c,
-        d,
-    );
-    let number = answer.number();
-    show::text(b"drawing");
-    show::label(number);
-    show_tables(number, next1, side1, next3, other3, parent, full);
-    show::work(number, a, b, c, d);
-    show::line_end();
-    number
-}
-
-// Draws a sheet into these tables, and asks of the drawing.
-fn draw(
-    size: Size,
-    sheet: &[u16],
-    full: bool,
-    next1: &mut [u16],
-    side1: &mut [u16],
-    next3: &mut [u16],
-    other3: &mut [u16],
-    parent: &mut [u16],
-    a: &mut [u16],
-    b: &mut [u16],
-    c: &mut [u16],
-    d: &mut [u16],
-) {
-    let number = draw_once(
-        size,
-        sheet,
-        full,
-        next1,
-        side1,
-        next3,
-        other3,
-        parent,
-        a,
-        b,
-        c,
-        d,
-    );
-    if number == 0 {
-        ask(size, full, next1, side1, next3, other3, parent, a, b, c, d);
-    }
+// What drawing a sheet answered: the refusal's number, and the tables after it.
+pub struct Drawn {
+    pub number: u16,
+    pub tables: Tables,
+    pub works: Works,
 }
 
 // Draws a sheet into tables of these lengths.
-fn draw_lengths(size: Size, sheet: &[u16], full: bool, lengths: Lengths)
+fn draw(size: Size, sheet: &[u16], lengths: Lengths) -> Drawn
     requires { ⌜ Fits lengths ⌝ }
 {
     let x = lengths.next1;
@@ -165,10 +41,10 @@ fn draw_lengths(size: Size, sheet: &[u16], full: bool, lengths: Lengths)
     let mut b = [lent::UNTOUCHED; lent::ROOM];
     let mut c = [lent::UNTOUCHED; lent::ROOM];
     let mut d = [lent::UNTOUCHED; lent::ROOM];
-    draw(
-        size,
+    let answer = drawing::draw::draw(
+        size.width,
+        size.height,
         sheet,
-        full,
         &mut next1[..x],
         &mut side1[..s],
         &mut next3[..y],
@@ -179,11 +55,71 @@ fn draw_lengths(size: Size, sheet: &[u16], full: bool, lengths: Lengths)
         &mut c[..kc],
         &mut d[..kd],
     );
+    Drawn {
+        number: answer.number(),
+        tables: Tables {
+            next1,
+            side1,
+            next3,
+            other3,
+            parent,
+        },
+        works: Works { a, b, c, d },
+    }
+}
+
+// The five tables of a sheet that was drawn, in full or their sums; of a refusal, whether they are as they were.
+fn show_tables(number: u16, full: bool, lengths: Lengths, tables: Tables) {
+    if number == 0 {
+        tables::show(lengths, tables, full);
+        return;
+    }
+    show::kept(tables::all_untouched(tables));
+}
+
+// Writes what drawing a sheet answered.
+fn show_drawn(full: bool, lengths: Lengths, drawn: Drawn) {
+    let tables = drawn.tables;
+    let works = drawn.works;
+    show::text(b"drawing");
+    show::label(drawn.number);
+    show_tables(drawn.number, full, lengths, tables);
+    tables::show_works(
+        drawn.number,
+        lengths.a,
+        lengths.b,
+        lengths.c,
+        lengths.d,
+        works,
+    );
+    show::line_end();
+}
+
+// What is asked of a drawing that was made: the counts of all names, and of each name where it is written in full.
+fn ask(size: Size, full: bool, lengths: Lengths, tables: Tables)
+    requires { ⌜ Fits lengths ⌝ }
+{
+    asked::counts(size, full, lengths.parent, lengths.parent, lengths, tables);
+    if full {
+        asked::names(size, lengths, tables);
+    }
+}
+
+// Draws a sheet into tables of these lengths, and asks of the drawing.
+fn draw_lengths(size: Size, sheet: &[u16], full: bool, lengths: Lengths)
+    requires { ⌜ Fits lengths ⌝ }
+{
+    let drawn = draw(size, sheet, lengths);
+    show_drawn(full, lengths, drawn);
+    if drawn.number == 0 {
+        let tables = drawn.tables;
+        ask(size, full, lengths, tables);
+    }
 }
 
 // Draws the sheet of a case into tables of the stated lengths.
 fn draw_stated(size: Size, sheet: &[u16], full: bool) {
-    draw_lengths(size, sheet, full, lengths::stated(size.width, size.height));
+    draw_lengths(size, sheet, full, lengths::stated(size));
 }
 
 // Draws a sheet that is made by a rule.

@@ -1,15 +1,13 @@
-use mathlib.Core.Path.{_≡_}
-use Prim.Native.Nat.{_-_}
-use lib.ListN.{length}
 use borrow.Author.Needs.{needs}
+use Prim.Native.Nat.{_-_}
 use Rattle.drawing_cases.proofs.asked.names.Statement.{statement}
 use Rattle.drawing_cases.proofs.asked.names.Tie as tie
 
 abbrev Inv-loop : tie.InvT-loop
-Inv-loop size next1 side1 next3 other3 parent a₀ b₀ c₀ d₀ count i₀ a b c d i = (length a ≡ length a₀) × (length b ≡ length b₀) × (length c ≡ length c₀) × (length d ≡ length d₀)
+Inv-loop size lengths tables count i₀ i = Unit {0}
 
 abbrev μ-loop : tie.MeasureT-loop
-μ-loop size next1 side1 next3 other3 parent a₀ b₀ c₀ d₀ count i₀ a b c d i = count - i
+μ-loop size lengths tables count i₀ i = count - i
 
 slice-aggregate-text : tie.Need-slice-aggregate-text Inv-loop μ-loop
 slice-aggregate-text c = search needs
@@ -38,18 +36,6 @@ loop-again c = search needs
 line-end-requires : tie.Need-line-end-requires Inv-loop μ-loop
 line-end-requires c κs = search needs
 
-same-length : tie.Need-same-length Inv-loop μ-loop
-same-length c = search needs
-
-same-length-2 : tie.Need-same-length-2 Inv-loop μ-loop
-same-length-2 c = search needs
-
-same-length-3 : tie.Need-same-length-3 Inv-loop μ-loop
-same-length-3 c = search needs
-
-same-length-4 : tie.Need-same-length-4 Inv-loop μ-loop
-same-length-4 c = search needs
-
 returns : tie.Need-returns Inv-loop μ-loop
 returns c = search needs
 
@@ -68,8 +54,4 @@ names-spec =
     loop-less
     loop-again
     line-end-requires
-    same-length
-    same-length-2
-    same-length-3
-    same-length-4
     returns)

@@ -1,8 +1,8 @@
+use borrow.Author.Needs.{needs}
 use native.Mathlib.Omega.{arith}
 use lib.ListN.{length-take}
-use borrow.Author.Needs.{needs}
-use Rattle.drawing_cases.proofs.tried.draw_lengths.Statement.{statement}
-use Rattle.drawing_cases.proofs.tried.draw_lengths.Tie as tie
+use Rattle.drawing_cases.proofs.tried.draw.Statement.{statement}
+use Rattle.drawing_cases.proofs.tried.draw.Tie as tie
 
 array-borrow-prefix-next1 : tie.Need-array-borrow-prefix-next1
 array-borrow-prefix-next1 c = search needs
@@ -61,11 +61,14 @@ slice-aggregate-draw-9 c = simp length-take (omega arith)
 draw-requires : tie.Need-draw-requires
 draw-requires c κs = search needs
 
+number-requires : tie.Need-number-requires
+number-requires c κs = search needs
+
 returns : tie.Need-returns
 returns c = search needs
 
-pub draw-lengths-spec : {M : Type 1} → statement M
-draw-lengths-spec =
+pub draw-spec : {M : Type 1} → statement M
+draw-spec =
     tie.close
     (tie.spec
     array-borrow-prefix-next1
@@ -87,4 +90,5 @@ draw-lengths-spec =
     array-borrow-prefix-d
     slice-aggregate-draw-9
     draw-requires
+    number-requires
     returns)
