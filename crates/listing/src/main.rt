@@ -5,11 +5,9 @@ mod text;
 
 use deck::answer::Read;
 use deck::card::LONG;
-use drawing::draw::Drawn;
 use libc::STDIN_FILENO;
 use plane::size;
 use reading::read::CELLS;
-use verdict::judge::Verdict;
 ghost use mathlib.Core.Path.{_≡_};
 ghost use mathlib.Core.Bool.{true};
 ghost use Prim.Native.Nat.{_*_, _≤_};
@@ -28,91 +26,125 @@ const SLOTS: usize = 4 * (WIDEST + 1) * (WIDEST + 1);
 // The bytes of the longest deck, and one more, so that bytes after its last card are seen.
 const BYTES: usize = LONG * (WIDEST + 1) + 1;
 
-// Counts the depths and holes of a drawing, and lists it. A drawing is not refused; were it, there would be no listing.
-fn list_drawing(
-    width: u16,
-    height: u16,
-    sheet: &[u16],
-    next1: &[u16],
-    side1: &[u16],
-    next3: &[u16],
-    other3: &[u16],
-    parent: &[u16],
-    depths: &mut [u16],
-    holes: &mut [u16],
-    a: &mut [u16],
-    b: &mut [u16],
-    c: &mut [u16],
-    d: &mut [u16],
-) {
-    let Verdict::Done = counts::count::counts(
-        width,
-        height,
-        next1,
-        side1,
-        next3,
-        other3,
-        parent,
-        depths,
-        holes,
-        a,
-        b,
-        c,
-        d,
-    ) else {
-        return;
-    };
-    lines::listing(width, height, sheet, parent, depths, holes, other3, side1);
+// The five tables of a drawing, each with room for the largest.
+struct Tables {
+    next1: [u16; SLOTS],
+    side1: [u16; SLOTS],
+    next3: [u16; SLOTS],
+    other3: [u16; SLOTS],
+    parent: [u16; NAMES],
 }
 
-// Draws a sheet, and lists the drawing. A sheet that was read is not refused; were it, there would be no listing.
-fn list_drawn(
-    width: u16,
-    height: u16,
-    sheet: &[u16],
-    next1: &mut [u16],
-    side1: &mut [u16],
-    next3: &mut [u16],
-    other3: &mut [u16],
-    parent: &mut [u16],
-    depths: &mut [u16],
-    holes: &mut [u16],
-    a: &mut [u16],
-    b: &mut [u16],
-    c: &mut [u16],
-    d: &mut [u16],
-) {
-    let Drawn::Done = drawing::draw::draw(
+// What the counts answered: the refusal's number, depth and hole count of each name.
+struct Counted {
+    number: u16,
+    depths: [u16; NAMES],
+    holes: [u16; NAMES],
+}
+
+// Draws a sheet. One that was read is not refused; were it, the tables would be no drawing.
+fn draw(width: u16, height: u16, sheet: &[u16], slots: usize, names: usize) -> Tables
+    requires { ⌜ (slots ≤ 21316) × (names ≤ 5185) ⌝ }
+{
+    let mut next1 = [0u16; SLOTS];
+    let mut side1 = [0u16; SLOTS];
+    let mut next3 = [0u16; SLOTS];
+    let mut other3 = [0u16; SLOTS];
+    let mut parent = [0u16; NAMES];
+    let mut a = [0u16; SLOTS];
+    let mut b = [0u16; SLOTS];
+    let mut c = [0u16; SLOTS];
+    let mut d = [0u16; SLOTS];
+    drawing::draw::draw(
         width,
         height,
         sheet,
+        &mut next1[..slots],
+        &mut side1[..slots],
+        &mut next3[..slots],
+        &mut other3[..slots],
+        &mut parent[..names],
+        &mut a[..slots],
+        &mut b[..slots],
+        &mut c[..slots],
+        &mut d[..slots],
+    );
+    Tables {
         next1,
         side1,
         next3,
         other3,
         parent,
-        a,
-        b,
-        c,
-        d,
-    ) else {
-        return;
-    };
-    list_drawing(
+    }
+}
+
+// Counts the depths and holes of a drawing.
+fn count(width: u16, height: u16, slots: usize, names: usize, tables: Tables) -> Counted
+    requires { ⌜ (slots ≤ 21316) × (names ≤ 5185) ⌝ }
+{
+    let next1 = tables.next1;
+    let side1 = tables.side1;
+    let next3 = tables.next3;
+    let other3 = tables.other3;
+    let parent = tables.parent;
+    let mut depths = [0u16; NAMES];
+    let mut holes = [0u16; NAMES];
+    let mut a = [0u16; SLOTS];
+    let mut b = [0u16; SLOTS];
+    let mut c = [0u16; SLOTS];
+    let mut d = [0u16; SLOTS];
+    let answer = counts::count::counts(
         width,
         height,
-        sheet,
-        next1,
-        side1,
-        next3,
-        other3,
-        parent,
+        &next1[..slots],
+        &side1[..slots],
+        &next3[..slots],
+        &other3[..slots],
+        &parent[..names],
+        &mut depths[..names],
+        &mut holes[..names],
+        &mut a[..slots],
+        &mut b[..slots],
+        &mut c[..slots],
+        &mut d[..slots],
+    );
+    Counted {
+        number: answer.number(),
         depths,
         holes,
-        a,
-        b,
-        c,
-        d,
+    }
+}
+
+// The entries of a table up to a length.
+fn front(table: &[u16], length: usize) -> &[u16] {
+    if length < table.len() {
+        return &table[..length];
+    }
+    table
+}
+
+// Lists a drawing. One of a sheet that was read is not refused; were it, there would be no listing.
+fn list_drawing(width: u16, height: u16, sheet: &[u16], slots: usize, names: usize, tables: Tables)
+    requires { ⌜ (slots ≤ 21316) × (names ≤ 5185) ⌝ }
+{
+    let counted = count(width, height, slots, names, tables);
+    if counted.number != 0 {
+        return;
+    }
+    let parent = tables.parent;
+    let depths = counted.depths;
+    let holes = counted.holes;
+    let other3 = tables.other3;
+    let side1 = tables.side1;
+    lines::listing(
+        width,
+        height,
+        sheet,
+        front(&parent, names),
+        front(&depths, names),
+        front(&holes, names),
+        front(&other3, slots),
+        front(&side1, slots),
     );
 }
 
@@ -143,33 +175,8 @@ fn list_sheet(width: u16, height: u16, cells: &[u16])
     let n = cells_of(width, height);
     let names = n + 1;
     let slots = slots_of(width, height);
-    let mut next1 = [0u16; SLOTS];
-    let mut side1 = [0u16; SLOTS];
-    let mut next3 = [0u16; SLOTS];
-    let mut other3 = [0u16; SLOTS];
-    let mut parent = [0u16; NAMES];
-    let mut depths = [0u16; NAMES];
-    let mut holes = [0u16; NAMES];
-    let mut a = [0u16; SLOTS];
-    let mut b = [0u16; SLOTS];
-    let mut c = [0u16; SLOTS];
-    let mut d = [0u16; SLOTS];
-    list_drawn(
-        width,
-        height,
-        &cells[..n],
-        &mut next1[..slots],
-        &mut side1[..slots],
-        &mut next3[..slots],
-        &mut other3[..slots],
-        &mut parent[..names],
-        &mut depths[..names],
-        &mut holes[..names],
-        &mut a[..slots],
-        &mut b[..slots],
-        &mut c[..slots],
-        &mut d[..slots],
-    );
+    let tables = draw(width, height, &cells[..n], slots, names);
+    list_drawing(width, height, &cells[..n], slots, names, tables);
 }
 
 // Lists the sheet of a deck, or says why the deck is refused.

@@ -1,0 +1,90 @@
+use borrow.Author.Needs.{needs}
+use native.Mathlib.Omega.{arith}
+use lib.ListN.{length-take}
+use Rattle.listing.proofs.draw.Statement.{statement}
+use Rattle.listing.proofs.draw.Tie as tie
+
+array-borrow-prefix-next1 : tie.Need-array-borrow-prefix-next1
+array-borrow-prefix-next1 c = search needs
+
+slice-aggregate-draw : tie.Need-slice-aggregate-draw
+slice-aggregate-draw c = simp length-take (omega arith)
+
+array-borrow-prefix-side1 : tie.Need-array-borrow-prefix-side1
+array-borrow-prefix-side1 c = search needs
+
+slice-aggregate-draw-2 : tie.Need-slice-aggregate-draw-2
+slice-aggregate-draw-2 c = simp length-take (omega arith)
+
+array-borrow-prefix-next3 : tie.Need-array-borrow-prefix-next3
+array-borrow-prefix-next3 c = search needs
+
+slice-aggregate-draw-3 : tie.Need-slice-aggregate-draw-3
+slice-aggregate-draw-3 c = simp length-take (omega arith)
+
+array-borrow-prefix-other3 : tie.Need-array-borrow-prefix-other3
+array-borrow-prefix-other3 c = search needs
+
+slice-aggregate-draw-4 : tie.Need-slice-aggregate-draw-4
+slice-aggregate-draw-4 c = simp length-take (omega arith)
+
+array-borrow-prefix-parent : tie.Need-array-borrow-prefix-parent
+array-borrow-prefix-parent c = search needs
+
+slice-aggregate-draw-5 : tie.Need-slice-aggregate-draw-5
+slice-aggregate-draw-5 c = simp length-take (omega arith)
+
+array-borrow-prefix-a : tie.Need-array-borrow-prefix-a
+array-borrow-prefix-a c = search needs
+
+slice-aggregate-draw-6 : tie.Need-slice-aggregate-draw-6
+slice-aggregate-draw-6 c = simp length-take (omega arith)
+
+array-borrow-prefix-b : tie.Need-array-borrow-prefix-b
+array-borrow-prefix-b c = search needs
+
+slice-aggregate-draw-7 : tie.Need-slice-aggregate-draw-7
+slice-aggregate-draw-7 c = simp length-take (omega arith)
+
+array-borrow-prefix-c : tie.Need-array-borrow-prefix-c
+array-borrow-prefix-c c = search needs
+
+slice-aggregate-draw-8 : tie.Need-slice-aggregate-draw-8
+slice-aggregate-draw-8 c = simp length-take (omega arith)
+
+array-borrow-prefix-d : tie.Need-array-borrow-prefix-d
+array-borrow-prefix-d c = search needs
+
+slice-aggregate-draw-9 : tie.Need-slice-aggregate-draw-9
+slice-aggregate-draw-9 c = simp length-take (omega arith)
+
+draw-requires : tie.Need-draw-requires
+draw-requires c κs = search needs
+
+returns : tie.Need-returns
+returns c = search needs
+
+pub draw-spec : {M : Type 1} → statement M
+draw-spec =
+    tie.close
+    (tie.spec
+    array-borrow-prefix-next1
+    slice-aggregate-draw
+    array-borrow-prefix-side1
+    slice-aggregate-draw-2
+    array-borrow-prefix-next3
+    slice-aggregate-draw-3
+    array-borrow-prefix-other3
+    slice-aggregate-draw-4
+    array-borrow-prefix-parent
+    slice-aggregate-draw-5
+    array-borrow-prefix-a
+    slice-aggregate-draw-6
+    array-borrow-prefix-b
+    slice-aggregate-draw-7
+    array-borrow-prefix-c
+    slice-aggregate-draw-8
+    array-borrow-prefix-d
+    slice-aggregate-draw-9
+    draw-requires
+    returns)
