@@ -1,6 +1,8 @@
 use cases::lent;
 use cases::made;
 use cases::show;
+use cases::tables;
+use cases::tables::Works;
 use table::entry;
 ghost use Prim.Native.Nat.{_≤_};
 ghost use Rattle.cases.specs.Room.{room};
@@ -23,6 +25,15 @@ pub struct Lengths {
     pub d: usize,
 }
 
+// What drawing a level answered: the refusal's number, and the tables after it.
+pub struct Drawn {
+    pub number: u16,
+    pub next: [u16; lent::ROOM],
+    pub other: [u16; lent::ROOM],
+    pub side: [u16; lent::ROOM],
+    pub works: Works,
+}
+
 // The lengths that a case gives.
 fn lengths_of(lengths: &[u16]) -> Lengths
     ensures { λ r. ⌜
@@ -41,62 +52,8 @@ fn lengths_of(lengths: &[u16]) -> Lengths
     }
 }
 
-// Whether the result tables are as they were.
-fn untouched(next: &[u16], other: &[u16], side: &[u16]) -> bool {
-    if !lent::all_are(next, lent::UNTOUCHED) {
-        return false;
-    }
-    if !lent::all_are(other, lent::UNTOUCHED) {
-        return false;
-    }
-    lent::all_are(side, lent::UNTOUCHED)
-}
-
-// The result tables of a level that was drawn, in full or their sums; of a refusal, whether they are as they were.
-fn show_tables(number: u16, next: &[u16], other: &[u16], side: &[u16], full: bool) {
-    if number == 0 {
-        show::table(next, full);
-        show::table(other, full);
-        show::table(side, full);
-        return;
-    }
-    show::kept(untouched(next, other, side));
-}
-
-// Draws a level of a sheet into these tables.
-fn draw(
-    case: Case,
-    sheet: &[u16],
-    full: bool,
-    next: &mut [u16],
-    other: &mut [u16],
-    side: &mut [u16],
-    a: &mut [u16],
-    b: &mut [u16],
-    c: &mut [u16],
-    d: &mut [u16],
-) {
-    let answer = level::draw::draw(
-        case.width,
-        case.height,
-        case.level,
-        sheet,
-        next,
-        other,
-        side,
-        a,
-        b,
-        c,
-        d,
-    );
-    let number = answer.number();
-    show::label(number);
-    show_tables(number, next, other, side, full);
-    show::work(number, a, b, c, d);
-}
-
 // Draws a level of a sheet into tables of these lengths.
-fn draw_lengths(case: Case, sheet: &[u16], full: bool, lengths: Lengths)
+fn draw(case: Case, sheet: &[u16], lengths: Lengths) -> Drawn
     requires { ⌜
         (lengths .next ≤ room) × (lengths .other ≤ room) × (lengths .side ≤ room) × (lengths .a ≤ room) ×
         (lengths .b ≤ room) × (lengths .c ≤ room) × (lengths .d ≤ room)
@@ -116,10 +73,11 @@ fn draw_lengths(case: Case, sheet: &[u16], full: bool, lengths: Lengths)
     let mut b = [lent::UNTOUCHED; lent::ROOM];
     let mut c = [lent::UNTOUCHED; lent::ROOM];
     let mut d = [lent::UNTOUCHED; lent::ROOM];
-    draw(
-        case,
+    let answer = level::draw::draw(
+        case.width,
+        case.height,
+        case.level,
         sheet,
-        full,
         &mut next[..n],
         &mut other[..o],
         &mut side[..s],
@@ -128,13 +86,58 @@ fn draw_lengths(case: Case, sheet: &[u16], full: bool, lengths: Lengths)
         &mut c[..kc],
         &mut d[..kd],
     );
+    Drawn {
+        number: answer.number(),
+        next,
+        other,
+        side,
+        works: Works { a, b, c, d },
+    }
 }
 
-// Draws the sheet of a case.
-fn draw_case(case: Case, sheet: &[u16], lengths: &[u16], full: bool) {
+// Whether the result tables are as they were.
+fn untouched(drawn: Drawn) -> bool {
+    if !tables::untouched(&drawn.next) {
+        return false;
+    }
+    if !tables::untouched(&drawn.other) {
+        return false;
+    }
+    tables::untouched(&drawn.side)
+}
+
+// The result tables of a level that was drawn, in full or their sums; of a refusal, whether they are as they were.
+fn show_tables(full: bool, lengths: Lengths, drawn: Drawn) {
+    if drawn.number == 0 {
+        show::table(tables::front(&drawn.next, lengths.next), full);
+        show::table(tables::front(&drawn.other, lengths.other), full);
+        show::table(tables::front(&drawn.side, lengths.side), full);
+        return;
+    }
+    show::kept(untouched(drawn));
+}
+
+// Writes what drawing a level answered.
+fn show_drawn(full: bool, lengths: Lengths, drawn: Drawn) {
+    let works = drawn.works;
     show::text(b"level");
-    draw_lengths(case, sheet, full, lengths_of(lengths));
+    show::label(drawn.number);
+    show_tables(full, lengths, drawn);
+    tables::show_works(
+        drawn.number,
+        lengths.a,
+        lengths.b,
+        lengths.c,
+        lengths.d,
+        works,
+    );
     show::line_end();
+}
+
+// Draws the sheet of a case into tables of the lengths of a list.
+fn draw_case(case: Case, sheet: &[u16], list: &[u16], full: bool) {
+    let lengths = lengths_of(list);
+    show_drawn(full, lengths, draw(case, sheet, lengths));
 }
 
 // Draws the sheet of a case into tables of slot length.

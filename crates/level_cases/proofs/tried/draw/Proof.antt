@@ -1,8 +1,8 @@
+use borrow.Author.Needs.{needs}
 use native.Mathlib.Omega.{arith}
 use lib.ListN.{length-take}
-use borrow.Author.Needs.{needs}
-use Rattle.level_cases.proofs.tried.draw_lengths.Statement.{statement}
-use Rattle.level_cases.proofs.tried.draw_lengths.Tie as tie
+use Rattle.level_cases.proofs.tried.draw.Statement.{statement}
+use Rattle.level_cases.proofs.tried.draw.Tie as tie
 
 array-borrow-prefix-next : tie.Need-array-borrow-prefix-next
 array-borrow-prefix-next c = search needs
@@ -49,11 +49,14 @@ slice-aggregate-draw-7 c = simp length-take (omega arith)
 draw-requires : tie.Need-draw-requires
 draw-requires c κs = search needs
 
+number-requires : tie.Need-number-requires
+number-requires c κs = search needs
+
 returns : tie.Need-returns
 returns c = search needs
 
-pub draw-lengths-spec : {M : Type 1} → statement M
-draw-lengths-spec =
+pub draw-spec : {M : Type 1} → statement M
+draw-spec =
     tie.close
     (tie.spec
     array-borrow-prefix-next
@@ -71,4 +74,5 @@ draw-lengths-spec =
     array-borrow-prefix-d
     slice-aggregate-draw-7
     draw-requires
+    number-requires
     returns)
