@@ -6,9 +6,9 @@
 //                                 five tables, their lengths and those of the work tables; two names are joined
 //   D W H EVERY STRIDE            a sitting over a sheet whose cells all differ: the darts are gone through, each by so
 //                                 many numbers after the one before, and the regions on the two sides of a dart are joined
-// Of a join: the refusal's number, 'kept' where the tables of a refusal have the sums that they had, and 'kept' or
-// 'cleared' of the work tables. After the last join of T the five tables. Of a sitting, after so many joins each and after
-// the last: how many were done, how many regions are left, whether the tables are those drawn afresh, and their sums.
+// Of a join: the refusal's number, 'kept' where the tables of a refusal are as they were, and 'kept' or 'cleared' of the
+// work tables. After the last join of T the five tables. Of a sitting, after so many joins each and after the last: how
+// many were done, how many regions are left, whether the tables are those drawn afresh, and their sums.
 mod one;
 mod sitting;
 mod tried;

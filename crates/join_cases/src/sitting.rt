@@ -1,5 +1,4 @@
 use crate::one;
-use crate::tried;
 use cases::lengths::Lengths;
 use cases::lengths::Size;
 use cases::lent;
@@ -130,7 +129,7 @@ fn show_standing(size: Size, lengths: Lengths, names: &[u16], standing: Standing
         standing.done,
         regions_left(tables::front(&tables.parent, lengths.parent)),
     );
-    show_same(one::same(tables, tried::draw(size, names, lengths)));
+    show_same(one::same(tables, one::draw(size, names, lengths)));
     tables::show(lengths, tables, false);
 }
 

@@ -12,51 +12,6 @@ use cases::tables::Tables;
 use table::entry;
 ghost use Rattle.cases.specs.Room.{Fits};
 
-// The drawing of a sheet, in tables of these lengths.
-pub(crate) fn draw(size: Size, sheet: &[u16], lengths: Lengths) -> Tables
-    requires { ⌜ Fits lengths ⌝ }
-{
-    let x = lengths.next1;
-    let s = lengths.side1;
-    let y = lengths.next3;
-    let o = lengths.other3;
-    let p = lengths.parent;
-    let ka = lengths.a;
-    let kb = lengths.b;
-    let kc = lengths.c;
-    let kd = lengths.d;
-    let mut next1 = [lent::UNTOUCHED; lent::ROOM];
-    let mut side1 = [lent::UNTOUCHED; lent::ROOM];
-    let mut next3 = [lent::UNTOUCHED; lent::ROOM];
-    let mut other3 = [lent::UNTOUCHED; lent::ROOM];
-    let mut parent = [lent::UNTOUCHED; lent::ROOM];
-    let mut a = [lent::UNTOUCHED; lent::ROOM];
-    let mut b = [lent::UNTOUCHED; lent::ROOM];
-    let mut c = [lent::UNTOUCHED; lent::ROOM];
-    let mut d = [lent::UNTOUCHED; lent::ROOM];
-    drawing::draw::draw(
-        size.width,
-        size.height,
-        sheet,
-        &mut next1[..x],
-        &mut side1[..s],
-        &mut next3[..y],
-        &mut other3[..o],
-        &mut parent[..p],
-        &mut a[..ka],
-        &mut b[..kb],
-        &mut c[..kc],
-        &mut d[..kd],
-    );
-    Tables {
-        next1,
-        side1,
-        next3,
-        other3,
-        parent,
-    }
-}
-
 // Joins two names in five tables that a case gives.
 fn join_given(size: Size, values: &[u16], lengths: Lengths)
     requires { ⌜ Fits lengths ⌝ }
@@ -92,7 +47,7 @@ fn go(kind: u8, size: Size, sheet: &mut [u16], values: &[u16], lengths: Lengths)
         join_given(size, values, lengths);
         return;
     }
-    let tables = draw(size, sheet, lengths);
+    let tables = one::draw(size, sheet, lengths);
     if kind == b'D' {
         sitting::sit(size, lengths, pace_of(values), sheet, tables);
         return;

@@ -1,8 +1,8 @@
 use native.Mathlib.Omega.{arith}
 use lib.ListN.{length-take}
 use borrow.Author.Needs.{needs}
-use Rattle.join_cases.proofs.tried.draw.Statement.{statement}
-use Rattle.join_cases.proofs.tried.draw.Tie as tie
+use Rattle.join_cases.proofs.one.draw.Statement.{statement}
+use Rattle.join_cases.proofs.one.draw.Tie as tie
 
 array-borrow-prefix-next1 : tie.Need-array-borrow-prefix-next1
 array-borrow-prefix-next1 c = search needs
