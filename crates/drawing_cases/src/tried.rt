@@ -8,65 +8,9 @@ use cases::made;
 use cases::show;
 use cases::tables;
 use cases::tables::Tables;
-use cases::tables::Works;
+use drawn::Drawn;
 use table::entry;
 ghost use Rattle.cases.specs.Room.{Fits};
-
-// What drawing a sheet answered: the refusal's number, and the tables after it.
-pub struct Drawn {
-    pub number: u16,
-    pub tables: Tables,
-    pub works: Works,
-}
-
-// Draws a sheet into tables of these lengths.
-fn draw(size: Size, sheet: &[u16], lengths: Lengths) -> Drawn
-    requires { ⌜ Fits lengths ⌝ }
-{
-    let x = lengths.next1;
-    let s = lengths.side1;
-    let y = lengths.next3;
-    let o = lengths.other3;
-    let p = lengths.parent;
-    let ka = lengths.a;
-    let kb = lengths.b;
-    let kc = lengths.c;
-    let kd = lengths.d;
-    let mut next1 = [lent::UNTOUCHED; lent::ROOM];
-    let mut side1 = [lent::UNTOUCHED; lent::ROOM];
-    let mut next3 = [lent::UNTOUCHED; lent::ROOM];
-    let mut other3 = [lent::UNTOUCHED; lent::ROOM];
-    let mut parent = [lent::UNTOUCHED; lent::ROOM];
-    let mut a = [lent::UNTOUCHED; lent::ROOM];
-    let mut b = [lent::UNTOUCHED; lent::ROOM];
-    let mut c = [lent::UNTOUCHED; lent::ROOM];
-    let mut d = [lent::UNTOUCHED; lent::ROOM];
-    let answer = drawing::draw::draw(
-        size.width,
-        size.height,
-        sheet,
-        &mut next1[..x],
-        &mut side1[..s],
-        &mut next3[..y],
-        &mut other3[..o],
-        &mut parent[..p],
-        &mut a[..ka],
-        &mut b[..kb],
-        &mut c[..kc],
-        &mut d[..kd],
-    );
-    Drawn {
-        number: answer.number(),
-        tables: Tables {
-            next1,
-            side1,
-            next3,
-            other3,
-            parent,
-        },
-        works: Works { a, b, c, d },
-    }
-}
 
 // The five tables of a sheet that was drawn, in full or their sums; of a refusal, whether they are as they were.
 fn show_tables(number: u16, full: bool, lengths: Lengths, tables: Tables) {
@@ -109,7 +53,7 @@ fn ask(size: Size, full: bool, lengths: Lengths, tables: Tables)
 fn draw_lengths(size: Size, sheet: &[u16], full: bool, lengths: Lengths)
     requires { ⌜ Fits lengths ⌝ }
 {
-    let drawn = draw(size, sheet, lengths);
+    let drawn = drawn::draw(size, sheet, lengths);
     show_drawn(full, lengths, drawn);
     if drawn.number == 0 {
         let tables = drawn.tables;

@@ -17,51 +17,6 @@ pub struct Joined {
     pub works: Works,
 }
 
-// The drawing of a sheet, in tables of these lengths.
-pub(crate) fn draw(size: Size, sheet: &[u16], lengths: Lengths) -> Tables
-    requires { ⌜ Fits lengths ⌝ }
-{
-    let x = lengths.next1;
-    let s = lengths.side1;
-    let y = lengths.next3;
-    let o = lengths.other3;
-    let p = lengths.parent;
-    let ka = lengths.a;
-    let kb = lengths.b;
-    let kc = lengths.c;
-    let kd = lengths.d;
-    let mut next1 = [lent::UNTOUCHED; lent::ROOM];
-    let mut side1 = [lent::UNTOUCHED; lent::ROOM];
-    let mut next3 = [lent::UNTOUCHED; lent::ROOM];
-    let mut other3 = [lent::UNTOUCHED; lent::ROOM];
-    let mut parent = [lent::UNTOUCHED; lent::ROOM];
-    let mut a = [lent::UNTOUCHED; lent::ROOM];
-    let mut b = [lent::UNTOUCHED; lent::ROOM];
-    let mut c = [lent::UNTOUCHED; lent::ROOM];
-    let mut d = [lent::UNTOUCHED; lent::ROOM];
-    drawing::draw::draw(
-        size.width,
-        size.height,
-        sheet,
-        &mut next1[..x],
-        &mut side1[..s],
-        &mut next3[..y],
-        &mut other3[..o],
-        &mut parent[..p],
-        &mut a[..ka],
-        &mut b[..kb],
-        &mut c[..kc],
-        &mut d[..kd],
-    );
-    Tables {
-        next1,
-        side1,
-        next3,
-        other3,
-        parent,
-    }
-}
-
 // Joins two names in tables of these lengths, with work tables that are not clear.
 pub(crate) fn join(size: Size, first: u16, second: u16, lengths: Lengths, tables: Tables) -> Joined
     requires { ⌜ Fits lengths ⌝ }

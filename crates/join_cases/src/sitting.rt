@@ -129,7 +129,8 @@ fn show_standing(size: Size, lengths: Lengths, names: &[u16], standing: Standing
         standing.done,
         regions_left(tables::front(&tables.parent, lengths.parent)),
     );
-    show_same(one::same(tables, one::draw(size, names, lengths)));
+    let fresh = drawn::draw(size, names, lengths).tables;
+    show_same(one::same(tables, fresh));
     tables::show(lengths, tables, false);
 }
 

@@ -47,7 +47,7 @@ fn go(kind: u8, size: Size, sheet: &mut [u16], values: &[u16], lengths: Lengths)
         join_given(size, values, lengths);
         return;
     }
-    let tables = one::draw(size, sheet, lengths);
+    let tables = drawn::draw(size, sheet, lengths).tables;
     if kind == b'D' {
         sitting::sit(size, lengths, pace_of(values), sheet, tables);
         return;

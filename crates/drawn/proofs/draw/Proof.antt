@@ -1,8 +1,8 @@
+use borrow.Author.Needs.{needs}
 use native.Mathlib.Omega.{arith}
 use lib.ListN.{length-take}
-use borrow.Author.Needs.{needs}
-use Rattle.join_cases.proofs.one.draw.Statement.{statement}
-use Rattle.join_cases.proofs.one.draw.Tie as tie
+use Rattle.drawn.proofs.draw.Statement.{statement}
+use Rattle.drawn.proofs.draw.Tie as tie
 
 array-borrow-prefix-next1 : tie.Need-array-borrow-prefix-next1
 array-borrow-prefix-next1 c = search needs
@@ -61,6 +61,9 @@ slice-aggregate-draw-9 c = simp length-take (omega arith)
 draw-requires : tie.Need-draw-requires
 draw-requires c κs = search needs
 
+number-requires : tie.Need-number-requires
+number-requires c κs = search needs
+
 returns : tie.Need-returns
 returns c = search needs
 
@@ -87,4 +90,5 @@ draw-spec =
     array-borrow-prefix-d
     slice-aggregate-draw-9
     draw-requires
+    number-requires
     returns)
