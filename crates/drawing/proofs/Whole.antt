@@ -21,7 +21,7 @@ use Rattle.lines.specs.Mask.{masked}
 use Rattle.lines.specs.Line.{nexts, sides}
 use Rattle.curves.specs.Keep.{keeps}
 use Rattle.curves.specs.Link.{keptAt, alongNext, alongOther}
-use Rattle.level.proofs.Paper.{masked-paper, nexts-paper, sides-paper, keeps-paper, alongNext-paper, alongOther-paper}
+use Rattle.levels.proofs.Paper.{masked-paper, nexts-paper, sides-paper, keeps-paper, alongNext-paper, alongOther-paper}
 use Rattle.enclosure.specs.Tops.{Rising}
 use Rattle.drawing.specs.Given.{tables}
 use Rattle.drawing.specs.Parts.{Lined, Kept, Curved}

@@ -1,3 +1,1 @@
-pub mod Paper
-pub mod Refused
-pub mod Tables
+mod Refused

@@ -32,7 +32,7 @@ unfolding points
 find-parents-requires c κs = (c .before .before .before .before .before .pre .0, front-long _ _ (c .before .before .before .before .before .args .top .now) (c .before .before .before .before .before .pre .1) (points-part _ _), c .before .before .before .before .before .pre .2, c .before .before .before .before .before .pre .3)
 
 same-length : tie.Need-same-length
-same-length c = search needs
+same-length c = c .before .before .find-parents .kept .1 .1 .1 .1 .0
 
 returns : tie.Need-returns
 unfolding points

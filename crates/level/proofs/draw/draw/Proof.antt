@@ -138,9 +138,7 @@ fill-requires c κs = (
   within-true _ _ _ (c .before .before .before .before .before .before .before .before .before .before .before
       .before .before .before .before .before .before .within .ensures) (c .before .before .before .before .before
       .before .before .before .before .before .before .before .before .before .before .before .if1 .left),
-  c .before
-      .before .before .before .before .before .before .before .before .before .before .before .before .before .before
-      .if2 .left,
+  omega (arith, c .before .before .before .before .before .before .before .before .before .before .before .before .before .before .before .if2 .left),
   c .before .before .before .before .before .before .before .before .before .before .before .before
       .before .before .if3 .left,
   c .before .before .before .before .before .before .before .before .before .before
@@ -159,25 +157,25 @@ fill-requires c κs = (
 )
 
 same-length : tie.Need-same-length
-same-length c = search needs
+same-length c = c .before .before .before .before .before .before .before .before .before .before .before .before .before .before .fill .kept .1 .1 .1 .1 .0
 
 same-length-2 : tie.Need-same-length-2
-same-length-2 c = search needs
+same-length-2 c = c .before .before .before .before .before .before .before .before .before .before .before .before .before .before .fill .kept .1 .1 .1 .1 .1 .0
 
 same-length-3 : tie.Need-same-length-3
-same-length-3 c = search needs
+same-length-3 c = c .before .before .before .before .before .before .before .before .before .before .before .before .before .before .fill .kept .1 .1 .1 .1 .1 .1 .0
 
 same-length-4 : tie.Need-same-length-4
-same-length-4 c = search needs
+same-length-4 c = c .before .before .before .before .before .before .before .before .before .before .before .before .before .before .fill .kept .1 .1 .1 .1 .1 .1 .1 .0
 
 same-length-5 : tie.Need-same-length-5
-same-length-5 c = search needs
+same-length-5 c = c .before .before .before .before .before .before .before .before .before .before .before .before .before .before .fill .kept .1 .1 .1 .1 .1 .1 .1 .1 .0
 
 same-length-6 : tie.Need-same-length-6
-same-length-6 c = search needs
+same-length-6 c = c .before .before .before .before .before .before .before .before .before .before .before .before .before .before .fill .kept .1 .1 .1 .1 .1 .1 .1 .1 .1 .0
 
 same-length-7 : tie.Need-same-length-7
-same-length-7 c = search needs
+same-length-7 c = c .before .before .before .before .before .before .before .before .before .before .before .before .before .before .fill .kept .1 .1 .1 .1 .1 .1 .1 .1 .1 .1 .0
 
 returns-11 : tie.Need-returns-11
 unfolding slots points

@@ -13,7 +13,7 @@ enum-known-refusal : tie.Need-enum-known-refusal
 enum-known-refusal c = search needs
 
 same-length : tie.Need-same-length
-same-length c = search needs
+same-length c = c .before .before .before .before .before .before .read .kept .1 .0
 
 returns : tie.Need-returns
 returns c =
@@ -21,7 +21,7 @@ returns c =
     (c .before .before .before .before .before .before .read .ensures)
 
 same-length-2 : tie.Need-same-length-2
-same-length-2 c = search needs
+same-length-2 c = c .before .before .before .before .before .read .kept .1 .0
 
 returns-2 : tie.Need-returns-2
 returns-2 c =

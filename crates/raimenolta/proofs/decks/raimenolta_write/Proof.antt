@@ -11,7 +11,7 @@ number-requires : tie.Need-number-requires
 number-requires c κs = search needs
 
 same-length : tie.Need-same-length
-same-length c = search needs
+same-length c = c .before .before .before .write .kept .1 .1 .1 .0
 
 returns : tie.Need-returns
 unfolding writeOutcome carded

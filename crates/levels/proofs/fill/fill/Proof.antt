@@ -1,7 +1,7 @@
 use Prim.Native.Nat.{_+_, _*_}
 use denote.Ref.{now}
 use Rattle.table.proofs.Cleared.{cleared-same}
-use Rattle.level.proofs.Tables.{filled-tables}
+use Rattle.levels.proofs.Tables.{filled-tables}
 use lib.Seq.{length-take-le, length-front}
 use Rattle.region.proofs.Room.{points-part, surround-part}
 use mathlib.Core.Path.{sym, _∙_}
@@ -10,8 +10,8 @@ use Rattle.plane.proofs.Fit.{points-fit}
 use Rattle.plane.proofs.Limit.{within-limits}
 use native.Mathlib.Omega.{arith}
 use borrow.Author.Needs.{needs}
-use Rattle.level.proofs.draw.fill.Statement.{statement}
-use Rattle.level.proofs.draw.fill.Tie as tie
+use Rattle.levels.proofs.fill.fill.Statement.{statement}
+use Rattle.levels.proofs.fill.fill.Tie as tie
 
 add-points : tie.Need-add-points
 unfolding points
@@ -52,9 +52,9 @@ add-framed-2 c = search needs
 name-cells-requires : tie.Need-name-cells-requires
 name-cells-requires c κs = search needs
 
-slice-reshare-prefix-levels : tie.Need-slice-reshare-prefix-levels
+slice-reshare-prefix-numbered : tie.Need-slice-reshare-prefix-numbered
 unfolding points
-slice-reshare-prefix-levels c =
+slice-reshare-prefix-numbered c =
     omega (
       arith,
       c .before .before .before .before .before .before .before .before .before .before .before .before
@@ -66,9 +66,9 @@ slice-reshare-prefix-levels c =
           .before .before .before .before .before .args .height),
     )
 
-slice-aggregate-levels : tie.Need-slice-aggregate-levels
+slice-aggregate-numbered : tie.Need-slice-aggregate-numbered
 unfolding points
-slice-aggregate-levels c =
+slice-aggregate-numbered c =
     sym (length-take-le _ _ (omega (
       arith,
       c .before .before .before .before .before .before .before .before .before
@@ -81,9 +81,9 @@ slice-aggregate-levels c =
           .height),
     )))
 
-slice-relend-prefix-levels : tie.Need-slice-relend-prefix-levels
+slice-relend-prefix-numbered : tie.Need-slice-relend-prefix-numbered
 unfolding points
-slice-relend-prefix-levels c =
+slice-relend-prefix-numbered c =
     omega (
       arith,
       c .before .before .before .before .before .before .before .before .before .before .before .before
@@ -94,9 +94,9 @@ slice-relend-prefix-levels c =
           .before .before .args .height),
     )
 
-slice-aggregate-levels-2 : tie.Need-slice-aggregate-levels-2
+slice-aggregate-numbered-2 : tie.Need-slice-aggregate-numbered-2
 unfolding points
-slice-aggregate-levels-2 c =
+slice-aggregate-numbered-2 c =
     sym (length-take-le _ _ (omega (
       arith,
       c .before .before .before .before .before .before .before .before .before
@@ -107,9 +107,9 @@ slice-aggregate-levels-2 c =
           .before .before .before .before .before .before .before .before .args .height),
     )))
 
-slice-relend-prefix-levels-2 : tie.Need-slice-relend-prefix-levels-2
+slice-relend-prefix-numbered-2 : tie.Need-slice-relend-prefix-numbered-2
 unfolding points
-slice-relend-prefix-levels-2 c =
+slice-relend-prefix-numbered-2 c =
     omega (
       arith,
       c .before .before .before .before .before .before .before .before .before .before .before .before
@@ -120,9 +120,9 @@ slice-relend-prefix-levels-2 c =
           .before .before .before .before .before .before .args .height),
     )
 
-slice-aggregate-levels-3 : tie.Need-slice-aggregate-levels-3
+slice-aggregate-numbered-3 : tie.Need-slice-aggregate-numbered-3
 unfolding points
-slice-aggregate-levels-3 c =
+slice-aggregate-numbered-3 c =
     sym (length-take-le _ _ (omega (
       arith,
       c .before .before .before .before .before .before .before .before .before
@@ -133,9 +133,9 @@ slice-aggregate-levels-3 c =
           .before .before .before .before .before .before .before .before .before .before .before .args .height),
     )))
 
-levels-requires : tie.Need-levels-requires
+numbered-requires : tie.Need-numbered-requires
 unfolding points
-levels-requires c κs =
+numbered-requires c κs =
     let s = c .before .before .before .before .before .before .before .before .before .before .before .before
     .before .before .before .before .before .before .before .before .before .before .pre in (
       s .0,
@@ -185,19 +185,19 @@ clear-four-requires : tie.Need-clear-four-requires
 clear-four-requires c κs = search needs
 
 same-length : tie.Need-same-length
-same-length c = search needs
+same-length c = c .before .before .before .before .before .before .before .before .before .before .before .before .before .before .before .before .before .before .before .before .before .before .before .before .before .numbered .kept .1 .1 .1 .1 .1 .1 .1 .0
 
 same-length-2 : tie.Need-same-length-2
-same-length-2 c = search needs
+same-length-2 c = c .before .before .before .before .before .before .before .before .before .before .before .before .before .before .before .before .before .before .before .before .before .before .before .before .before .numbered .kept .1 .1 .1 .1 .1 .1 .1 .1 .0
 
 same-length-3 : tie.Need-same-length-3
-same-length-3 c = search needs
+same-length-3 c = c .before .before .before .before .before .before .before .before .before .before .before .before .before .before .before .before .before .before .before .before .before .before .before .before .before .numbered .kept .1 .1 .1 .1 .1 .1 .1 .1 .1 .0
 
 same-length-4 : tie.Need-same-length-4
-same-length-4 c = search needs
+same-length-4 c = (c .before .before .before .before .before .before .before .before .clear-four .kept .0) ∙ (c .before .before .before .before .before .before .before .before .before .before .before .before .before .before .before .before .before .before .before .before .before .before .before .before .before .numbered .kept .1 .1 .1 .1 .0) ∙ (c .before .before .before .before .before .before .before .before .before .before .before .before .before .before .before .before .before .before .before .before .before .before .before .before .before .before .before .before .before .before .before .before .before .before .before .before .before .name-cells .kept .1 .1 .1 .0)
 
 same-length-5 : tie.Need-same-length-5
-same-length-5 c = search needs
+same-length-5 c = (c .before .before .before .before .before .before .before .before .clear-four .kept .1 .0) ∙ (c .before .before .before .before .before .before .before .before .before .before .before .before .before .before .before .before .before .before .before .before .before .before .before .before .before .before .before .before .before .before .before .before .before .before .before .before .before .name-cells .kept .1 .1 .1 .1 .0)
 
 same-length-6 : tie.Need-same-length-6
 same-length-6 c = search needs
@@ -219,10 +219,10 @@ returns c =
           .before .before .before .before .before .before .before .before .before .before .before .before .before .before
           .before .before .before .before .before .before .name-cells .ensures) (c .before .before .before .before .before
           .before .before .before .before .before .before .before .before .before .before .before .before .before .before
-          .before .before .before .before .before .before .levels .ensures),
+          .before .before .before .before .before .before .numbered .ensures),
       c .before .before .before .before .before
           .before .before .before .clear-four .ensures ∙ cleared-same _ _ _ _ (a .a .now) (a .b .now) (a .c .now) (a .d .now) (c .before .before .before .before .before .before .before .before .before .before .before .before .before
-          .before .before .before .before .before .before .before .before .before .before .before .before .levels .kept .1
+          .before .before .before .before .before .before .before .before .before .before .before .before .numbered .kept .1
           .1 .1 .1 .0 ∙ c .before .before .before .before .before .before .before .before .before .before .before .before
           .before .before .before .before .before .before .before .before .before .before .before .before .before .before
           .before .before .before .before .before .before .before .before .before .before .before .name-cells .kept .1 .1
@@ -231,13 +231,13 @@ returns c =
           .before .before .before .before .before .before .before .before .before .before .before .name-cells .kept .1 .1
           .1 .1 .0) (length-front (a .c .now) (c .before .before .before .before .before .before .before .before .before
           .before .before .before .before .before .before .before .before .before .before .before .before .before .before
-          .before .before .levels .last .1 .1 .1 .1 .1 .0) n (c .before .before .before .before .before .before .before
+          .before .before .numbered .last .1 .1 .1 .1 .1 .0) n (c .before .before .before .before .before .before .before
           .before .before .before .before .before .before .before .before .before .before .before .before .before .before
-          .before .before .before .before .levels .kept .1 .1 .1 .1 .1 .0)) (length-front (a .d .now) (c .before .before
+          .before .before .before .before .numbered .kept .1 .1 .1 .1 .1 .0)) (length-front (a .d .now) (c .before .before
           .before .before .before .before .before .before .before .before .before .before .before .before .before .before
-          .before .before .before .before .before .before .before .before .before .levels .last .1 .1 .1 .1 .1 .1 .0) n (c
+          .before .before .before .before .before .before .before .before .before .numbered .last .1 .1 .1 .1 .1 .1 .0) n (c
           .before .before .before .before .before .before .before .before .before .before .before .before .before .before
-          .before .before .before .before .before .before .before .before .before .before .before .levels .kept .1 .1 .1
+          .before .before .before .before .before .before .before .before .before .before .before .numbered .kept .1 .1 .1
           .1 .1 .1 .0)),
     )
 
@@ -252,13 +252,13 @@ fill-spec =
     add-framed
     add-framed-2
     name-cells-requires
-    slice-reshare-prefix-levels
-    slice-aggregate-levels
-    slice-relend-prefix-levels
-    slice-aggregate-levels-2
-    slice-relend-prefix-levels-2
-    slice-aggregate-levels-3
-    levels-requires
+    slice-reshare-prefix-numbered
+    slice-aggregate-numbered
+    slice-relend-prefix-numbered
+    slice-aggregate-numbered-2
+    slice-relend-prefix-numbered-2
+    slice-aggregate-numbered-3
+    numbered-requires
     clear-four-requires
     same-length
     same-length-2

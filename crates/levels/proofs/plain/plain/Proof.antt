@@ -1,7 +1,7 @@
-use Rattle.level.proofs.Tables.{plain-tables}
+use Rattle.levels.proofs.Tables.{plain-tables}
 use borrow.Author.Needs.{needs}
-use Rattle.level.proofs.draw.plain.Statement.{statement}
-use Rattle.level.proofs.draw.plain.Tie as tie
+use Rattle.levels.proofs.plain.plain.Statement.{statement}
+use Rattle.levels.proofs.plain.plain.Tie as tie
 
 nexts-requires : tie.Need-nexts-requires
 nexts-requires c κs = search needs
@@ -13,13 +13,13 @@ sides-requires : tie.Need-sides-requires
 sides-requires c κs = search needs
 
 same-length : tie.Need-same-length
-same-length c = search needs
+same-length c = c .before .before .before .before .before .before .before .before .before .before .nexts .kept .1 .1 .1 .0
 
 same-length-2 : tie.Need-same-length-2
-same-length-2 c = search needs
+same-length-2 c = c .before .before .before .before .before .before .others .kept .1 .1 .1 .0
 
 same-length-3 : tie.Need-same-length-3
-same-length-3 c = search needs
+same-length-3 c = c .before .before .sides .kept .1 .1 .1 .1 .0
 
 returns : tie.Need-returns
 returns c =

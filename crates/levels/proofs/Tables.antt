@@ -16,8 +16,8 @@ use Rattle.lines.specs.Mask.{masked, ruled}
 use Rattle.lines.specs.Line.{nexts, others, sides}
 use Rattle.curves.specs.Keep.{bends, keeps}
 use Rattle.curves.specs.Link.{alongNext, alongOther, alongSide}
-use Rattle.level.specs.Draw.{plainTables, alongTables, tablesOf}
-use Rattle.level.proofs.Paper.{levelTables-paper}
+use Rattle.levels.specs.Tables.{plainTables, alongTables, tablesOf}
+use Rattle.levels.proofs.Paper.{levelTables-paper}
 
 pub three : (a b c x y z : List ℕ) → a ≡ x → b ≡ y → c ≡ z → _≡_ {A = List (List ℕ)} (a ∷ b ∷ c ∷ []) (x ∷ y ∷ z ∷ [])
 three a b c x y z p q r = λ i. p i ∷ q i ∷ r i ∷ []

@@ -1,8 +1,8 @@
 use mathlib.Core.Path.{_∙_}
-use Rattle.level.proofs.Tables.{second-tables}
+use Rattle.levels.proofs.Tables.{second-tables}
 use borrow.Author.Needs.{needs}
-use Rattle.level.proofs.draw.second.Statement.{statement}
-use Rattle.level.proofs.draw.second.Tie as tie
+use Rattle.levels.proofs.along.second.Statement.{statement}
+use Rattle.levels.proofs.along.second.Tie as tie
 
 lines-requires : tie.Need-lines-requires
 lines-requires c κs = search needs
@@ -23,22 +23,22 @@ along-requires c κs =
     )
 
 same-length : tie.Need-same-length
-same-length c = search needs
+same-length c = c .before .before .before .before .before .before .before .before .before .before .before .before .before .before .before .before .before .before .before .before .before .before .before .lines .kept .1 .1 .1 .1 .0
 
 same-length-2 : tie.Need-same-length-2
-same-length-2 c = search needs
+same-length-2 c = c .before .before .before .before .before .before .before .before .before .before .before .before .before .before .before .before .before .before .before .before .before .before .before .lines .kept .1 .1 .1 .0
 
 same-length-3 : tie.Need-same-length-3
-same-length-3 c = search needs
+same-length-3 c = c .before .before .before .before .before .before .before .before .before .before .before .before .before .before .bends .kept .1 .1 .1 .0
 
 same-length-4 : tie.Need-same-length-4
-same-length-4 c = search needs
+same-length-4 c = c .before .before .before .before .before .before .along .kept .1 .1 .1 .1 .0
 
 same-length-5 : tie.Need-same-length-5
-same-length-5 c = search needs
+same-length-5 c = c .before .before .before .before .before .before .along .kept .1 .1 .1 .1 .1 .0
 
 same-length-6 : tie.Need-same-length-6
-same-length-6 c = search needs
+same-length-6 c = (c .before .before .before .before .before .before .along .kept .1 .1 .1 .1 .1 .1 .0) ∙ (c .before .before .before .before .before .before .before .before .before .before .before .before .before .before .before .before .before .before .before .before .before .before .before .lines .kept .1 .1 .1 .1 .1 .0)
 
 returns : tie.Need-returns
 returns c =

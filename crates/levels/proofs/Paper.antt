@@ -33,7 +33,7 @@ use Rattle.lines.specs.Mask.{around, masked, ruled}
 use Rattle.lines.specs.Line.{lined, onward, nexts, others, beheld, sides}
 use Rattle.curves.specs.Keep.{kindAt, large, bends, stands, anchored, keeps}
 use Rattle.curves.specs.Link.{ahead, keptAt, starts, lastOf, back, alongNext, alongOther, alongSide}
-use Rattle.level.specs.Draw.{plainTables, alongTables, tablesOf}
+use Rattle.levels.specs.Tables.{plainTables, alongTables, tablesOf}
 
 abbrev pub drafted : ℕ → ℕ → (ℕ → Bool) → List ℕ
 drafted w h o = table (points w h) (mask o)

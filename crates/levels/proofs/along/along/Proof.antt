@@ -1,7 +1,7 @@
-use Rattle.level.proofs.Tables.{along-tables}
+use Rattle.levels.proofs.Tables.{along-tables}
 use borrow.Author.Needs.{needs}
-use Rattle.level.proofs.draw.along.Statement.{statement}
-use Rattle.level.proofs.draw.along.Tie as tie
+use Rattle.levels.proofs.along.along.Statement.{statement}
+use Rattle.levels.proofs.along.along.Tie as tie
 
 links-requires : tie.Need-links-requires
 links-requires c κs = search needs
@@ -10,13 +10,13 @@ trim-requires : tie.Need-trim-requires
 trim-requires c κs = search needs
 
 same-length : tie.Need-same-length
-same-length c = search needs
+same-length c = c .before .before .before .before .before .before .before .before .before .links .kept .1 .1 .1 .1 .0
 
 same-length-2 : tie.Need-same-length-2
-same-length-2 c = search needs
+same-length-2 c = c .before .before .before .before .before .before .before .before .before .links .kept .1 .1 .1 .1 .1 .0
 
 same-length-3 : tie.Need-same-length-3
-same-length-3 c = search needs
+same-length-3 c = c .before .before .trim .kept .1 .0
 
 returns : tie.Need-returns
 returns c =

@@ -1,9 +1,9 @@
 use Rattle.lines.specs.Line.{nexts, sides}
 use mathlib.Core.Path.{ap, _∙_}
-use Rattle.level.proofs.Tables.{three}
+use Rattle.levels.proofs.Tables.{three}
 use borrow.Author.Needs.{needs}
-use Rattle.level.proofs.draw.lines.Statement.{statement}
-use Rattle.level.proofs.draw.lines.Tie as tie
+use Rattle.levels.proofs.along.lines.Statement.{statement}
+use Rattle.levels.proofs.along.lines.Tie as tie
 
 masks-requires : tie.Need-masks-requires
 masks-requires c κs = search needs
@@ -15,13 +15,13 @@ sides-requires : tie.Need-sides-requires
 sides-requires c κs = search needs
 
 same-length : tie.Need-same-length
-same-length c = search needs
+same-length c = c .before .before .before .before .before .before .before .before .before .before .before .before .masks .kept .1 .1 .1 .0
 
 same-length-2 : tie.Need-same-length-2
-same-length-2 c = search needs
+same-length-2 c = c .before .before .before .before .before .before .before .nexts .kept .1 .1 .1 .0
 
 same-length-3 : tie.Need-same-length-3
-same-length-3 c = search needs
+same-length-3 c = c .before .before .sides .kept .1 .1 .1 .1 .0
 
 returns : tie.Need-returns
 returns c =

@@ -1,8 +1,8 @@
 use mathlib.Core.Path.{_∙_}
-use Rattle.level.proofs.Tables.{zeroth-tables}
+use Rattle.levels.proofs.Tables.{zeroth-tables}
 use borrow.Author.Needs.{needs}
-use Rattle.level.proofs.draw.zeroth.Statement.{statement}
-use Rattle.level.proofs.draw.zeroth.Tie as tie
+use Rattle.levels.proofs.plain.zeroth.Statement.{statement}
+use Rattle.levels.proofs.plain.zeroth.Tie as tie
 
 rule-requires : tie.Need-rule-requires
 rule-requires c κs = search needs
@@ -14,16 +14,16 @@ plain-requires c κs =
     (s .0, s .1, c .before .before .before .before .before .before .rule .kept .1 .1 .0 ∙ s .2, s .3, s .4, s .5)
 
 same-length : tie.Need-same-length
-same-length c = search needs
+same-length c = c .before .before .before .before .before .before .before .before .before .before .before .before .before .rule .kept .1 .1 .0
 
 same-length-2 : tie.Need-same-length-2
-same-length-2 c = search needs
+same-length-2 c = c .before .before .before .before .before .before .plain .kept .1 .1 .1 .1 .0
 
 same-length-3 : tie.Need-same-length-3
-same-length-3 c = search needs
+same-length-3 c = c .before .before .before .before .before .before .plain .kept .1 .1 .1 .1 .1 .0
 
 same-length-4 : tie.Need-same-length-4
-same-length-4 c = search needs
+same-length-4 c = c .before .before .before .before .before .before .plain .kept .1 .1 .1 .1 .1 .1 .0
 
 returns : tie.Need-returns
 returns c =

@@ -9,8 +9,8 @@ use Rattle.plane.proofs.Fit.{points-fit}
 use Rattle.plane.proofs.Limit.{within-limits}
 use native.Mathlib.Omega.{arith}
 use borrow.Author.Needs.{needs}
-use Rattle.level.proofs.draw.keep_anchors.Statement.{statement}
-use Rattle.level.proofs.draw.keep_anchors.Tie as tie
+use Rattle.levels.proofs.along.keep_anchors.Statement.{statement}
+use Rattle.levels.proofs.along.keep_anchors.Tie as tie
 
 add-n : tie.Need-add-n
 add-n c = omega (arith, within-limits _ _ (c .before .before .before .before .pre .0))
@@ -72,7 +72,7 @@ same-length : tie.Need-same-length
 same-length c = search needs
 
 same-length-2 : tie.Need-same-length-2
-same-length-2 c = search needs
+same-length-2 c = c .before .before .keeps .kept .1 .1 .1 .1 .0
 
 returns : tie.Need-returns
 unfolding slots points

@@ -1,8 +1,8 @@
 use mathlib.Core.Path.{_∙_}
-use Rattle.level.proofs.Tables.{first-tables}
+use Rattle.levels.proofs.Tables.{first-tables}
 use borrow.Author.Needs.{needs}
-use Rattle.level.proofs.draw.first.Statement.{statement}
-use Rattle.level.proofs.draw.first.Tie as tie
+use Rattle.levels.proofs.plain.first.Statement.{statement}
+use Rattle.levels.proofs.plain.first.Tie as tie
 
 masks-requires : tie.Need-masks-requires
 masks-requires c κs = search needs
@@ -21,16 +21,16 @@ plain-requires c κs =
     )
 
 same-length : tie.Need-same-length
-same-length c = search needs
+same-length c = c .before .before .before .before .before .before .before .before .before .before .before .before .before .masks .kept .1 .1 .1 .0
 
 same-length-2 : tie.Need-same-length-2
-same-length-2 c = search needs
+same-length-2 c = c .before .before .before .before .before .before .plain .kept .1 .1 .1 .1 .0
 
 same-length-3 : tie.Need-same-length-3
-same-length-3 c = search needs
+same-length-3 c = c .before .before .before .before .before .before .plain .kept .1 .1 .1 .1 .1 .0
 
 same-length-4 : tie.Need-same-length-4
-same-length-4 c = search needs
+same-length-4 c = c .before .before .before .before .before .before .plain .kept .1 .1 .1 .1 .1 .1 .0
 
 returns : tie.Need-returns
 returns c =
