@@ -4,48 +4,34 @@
 --                      that held k
 use mathlib.Core.Path.{_≡_, sym}
 use mathlib.Core.List.{List, [], _∷_, _++_}
-use mathlib.Core.Logic.{⊎-elim}
 use Prim.Native.Nat.{ℕ}
-use native.Mathlib.Omega.{arith}
 use borrow.Author.Tests.{ne-eqb}
-use types.Run.{OneOf}
-use denote.Enum.Declared.{tagOf}
 use Rattle.paper.specs.Refusal.{Outcome}
 use Rattle.counts.specs.declared.count.Count.{Count}
-use Rattle.counts.proofs.count.Count.{the-type}
 use Rattle.drawing.specs.Answer.{left}
 use Rattle.counts.specs.Answer.{count, values, counted}
 use Rattle.deck.specs.declared.answer.Read.{Read}
 use Rattle.deck.specs.Outcome.{readOutcome}
 use Rattle.reading.specs.Reading.{reading}
 use Rattle.reading.proofs.One.{refused-some}
+use Rattle.values.specs.Put.{countHeld, refusal, sizeHeld, cardHeld}
 use Rattle.raimenolta.specs.Slot.{done, stopped, slotted, slottedTwice, carded}
 
 -- A count's answer, with its value in a slot.
-module _ (ts ws : List (List ℕ)) (o : Outcome) (l : List ℕ) where
-  pub count-is : (v : ℕ) (r : Count) → r ≡ Count.Is v → counted r ts ws ≡ o
-      → left 0 [] (ts ++ (v ∷ []) ∷ []) ws ≡ slotted o l
-  unfolding counted values slotted done
-  count-is v r i e = rw (← e, i)
-
-  pub count-refused : (r : Count) → OneOf (1 ∷ 2 ∷ 3 ∷ 4 ∷ []) (tagOf the-type r) → counted r ts ws ≡ o
-      → left (count r) [] (ts ++ l ∷ []) ws ≡ slotted o l
-  unfolding counted values slotted done
-  count-refused (Count.Is v) p e =
-      absurd (⊎-elim (λ q. omega arith) (⊎-elim (λ q. omega arith) (⊎-elim (λ q. omega arith) (λ q. omega arith))) p)
-  count-refused Count.Size p e = rw (← e)
-  count-refused Count.Tables p e = rw (← e)
-  count-refused Count.Drawing p e = rw (← e)
-  count-refused Count.Name p e = rw (← e)
+module _ (ts ws : List (List ℕ)) (o : Outcome) (l n v : ℕ) where
+  pub count-slotted : (r : Count) → n ≡ count r → v ≡ countHeld r l → counted r ts ws ≡ o
+      → left n [] (ts ++ (v ∷ []) ∷ []) ws ≡ slotted o (l ∷ [])
+  unfolding counted values slotted done countHeld
+  count-slotted (Count.Is i) p q e = rw (← e, p, q)
+  count-slotted Count.Size p q e = rw (← e, p, q)
+  count-slotted Count.Tables p q e = rw (← e, p, q)
+  count-slotted Count.Drawing p q e = rw (← e, p, q)
+  count-slotted Count.Name p q e = rw (← e, p, q)
 
 -- The reader's answer, with the size in one slot and the card in another.
-module _ (d t u s k : List ℕ) where
-  pub read-sheet : (w h : ℕ) (r : Read) → r ≡ Read.Sheet w h → readOutcome r u ≡ reading d t
-      → left 0 [] (u ∷ (w ∷ h ∷ []) ∷ k ∷ []) [] ≡ slottedTwice (carded (reading d t)) s k
-  unfolding readOutcome carded slottedTwice done stopped
-  read-sheet w h r i e = rw (← e, i)
-
-  pub read-refused : (m j : ℕ) (r : Read) → r ≡ Read.Refused m j → readOutcome r u ≡ reading d t
-      → left m [] (u ∷ s ∷ (j ∷ []) ∷ []) [] ≡ slottedTwice (carded (reading d t)) s k
-  unfolding readOutcome carded slottedTwice done stopped
-  read-refused m j r i e = rw (← e, i, ne-eqb m 0 (refused-some d t u m j (rw i at (sym e))))
+module _ (d t u s z : List ℕ) (k n y : ℕ) where
+  pub read-slotted : (r : Read) → n ≡ refusal r → z ≡ sizeHeld r s → y ≡ cardHeld r k → readOutcome r u ≡ reading d t
+      → left n [] (u ∷ z ∷ (y ∷ []) ∷ []) [] ≡ slottedTwice (carded (reading d t)) s (k ∷ [])
+  unfolding readOutcome carded slottedTwice done stopped refusal sizeHeld cardHeld
+  read-slotted (Read.Sheet w h) p q i e = rw (← e, p, q, i)
+  read-slotted (Read.Refused m j) p q i e = rw (← e, p, q, i, ne-eqb m 0 (refused-some d t u m j (sym e)))

@@ -1,5 +1,4 @@
 // Land decks: reading one, writing one, and the number for a row's card.
-use deck::answer::Read;
 ghost use mathlib.Core.Path.{_≡_};
 ghost use mathlib.Core.List.{[], _∷_};
 ghost use Rattle.deck.specs.Card.{partRefusal};
@@ -23,19 +22,8 @@ pub extern "C" fn raimenolta_read(
         slottedTwice (carded (reading (now (deck .entry)) (now (cells .entry)))) (now (size .entry)) (now (card .entry) ∷ [])
         ⌝ }
 {
-    match reading::read::read(deck, cells) {
-        Read::Sheet { width, height } => {
-            *size = [width, height];
-            0
-        }
-        Read::Refused {
-            number: refusal,
-            card: stopped,
-        } => {
-            *card = stopped;
-            refusal
-        }
-    }
+    let answer = reading::read::read(deck, cells);
+    values::read::put(answer, size, card)
 }
 
 // Writes the deck of a sheet. Refusals 1, 3, 4 and 27.

@@ -1,5 +1,4 @@
 // What is asked of a drawing: whether it is one, to join two of its regions, the depth and the holes of its regions.
-use counts::count::Count;
 ghost use mathlib.Core.Path.{_≡_};
 ghost use mathlib.Core.List.{[], _∷_, _++_};
 ghost use Rattle.paper.specs.Refusal.{five, merged, deepened, holed};
@@ -151,11 +150,7 @@ pub extern "C" fn raimenolta_depth(
         work_c,
         work_d,
     );
-    let Count::Is(value) = answer else {
-        return answer.number();
-    };
-    *depth = value;
-    0
+    values::count::put(answer, depth)
 }
 
 // Puts the hole count of a region, or of the outside for the name 0, into a lent slot. Refusals 1, 4, 5 and 8, which leave
@@ -190,7 +185,7 @@ pub extern "C" fn raimenolta_holes(
         (now (holes .entry) ∷ [])
         ⌝ }
 {
-    let count = counts::count::holes(
+    let answer = counts::count::holes(
         width,
         height,
         next1,
@@ -204,11 +199,7 @@ pub extern "C" fn raimenolta_holes(
         work_c,
         work_d,
     );
-    let Count::Is(value) = count else {
-        return count.number();
-    };
-    *holes = value;
-    0
+    values::count::put(answer, holes)
 }
 
 // Depth and hole count of every name at once, the mark for a name that is not in use. Refusals 1, 4 and 5.
