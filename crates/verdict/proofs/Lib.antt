@@ -1,3 +1,1 @@
-pub mod Told
-pub mod Judged
 pub mod Refusing

@@ -1,3 +1,2 @@
 // Whether five tables are the drawing of some sheet.
 pub mod judge;
-mod labels;

@@ -1,7 +1,7 @@
 use mathlib.Core.Path.{_∙_}
 use Rattle.drawing.proofs.Stated.{stated-long}
 use Rattle.table.proofs.Cleared.{cleared-same}
-use Rattle.verdict.proofs.Judged.{judged-no, judged-yes}
+use Rattle.agreement.proofs.Judged.{judged-no, judged-yes}
 use borrow.Author.Needs.{needs}
 use Rattle.verdict.proofs.judge.judge.Statement.{statement}
 use Rattle.verdict.proofs.judge.judge.Tie as tie

@@ -6,9 +6,9 @@ use borrow.Author.Needs.{needs}
 use Rattle.plane.specs.Dart.{mark}
 use Rattle.plane.proofs.Limit.{within-limits}
 use Rattle.plane.proofs.Fit.{cells-fit}
-use Rattle.verdict.proofs.Told.{Recovering, recovering-none, recovering-all, recovering-fit, recovering-on, recovering-down}
-use Rattle.verdict.proofs.labels.recover.Statement.{statement}
-use Rattle.verdict.proofs.labels.recover.Tie as tie
+use Rattle.agreement.proofs.Told.{Recovering, recovering-none, recovering-all, recovering-fit, recovering-on, recovering-down}
+use Rattle.agreement.proofs.labels.recover.Statement.{statement}
+use Rattle.agreement.proofs.labels.recover.Tie as tie
 
 abbrev Inv-loop : tie.InvT-loop
 Inv-loop width height side labels₀ n label₀ line₀ column₀ i₀ labels label line column i = Recovering width height side labels i column line label

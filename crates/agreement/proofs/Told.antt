@@ -20,7 +20,7 @@ use Rattle.paper.specs.Joining.{at}
 use Rattle.paper.specs.Drawing.{recover, recovered}
 use Rattle.plane.proofs.Fit.{cells-fit}
 use Rattle.laws.proofs.Column.{column-on, column-back, row-on, row-down}
-use Rattle.verdict.specs.Told.{told}
+use Rattle.agreement.specs.Told.{told}
 
 -- the north dart of the left line of cell i
 abbrev hung : ℕ → ℕ → ℕ

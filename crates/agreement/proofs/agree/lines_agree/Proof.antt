@@ -3,10 +3,10 @@ use native.Mathlib.Omega.{arith}
 use Rattle.plane.proofs.Fit.{cells-fit}
 use Rattle.table.proofs.Front.{front-in, front-long, front-kept, front-back, back-in, back-long}
 use Rattle.region.proofs.Room.{cells-part}
-use Rattle.verdict.proofs.Judged.{lines-judged}
+use Rattle.agreement.proofs.Judged.{lines-judged}
 use borrow.Author.Needs.{needs}
-use Rattle.verdict.proofs.judge.lines_agree.Statement.{statement}
-use Rattle.verdict.proofs.judge.lines_agree.Tie as tie
+use Rattle.agreement.proofs.agree.lines_agree.Statement.{statement}
+use Rattle.agreement.proofs.agree.lines_agree.Tie as tie
 
 mul-cells : tie.Need-mul-cells
 mul-cells c = omega (arith, cells-fit _ _ (c .before .before .before .before .before .before .pre .0))

@@ -3,10 +3,10 @@ use native.Mathlib.Omega.{arith}
 use Rattle.plane.proofs.Fit.{cells-fit}
 use Rattle.table.proofs.Front.{front-in, front-long, front-back, back-in, back-long}
 use Rattle.drawing.proofs.Whole.{tops-rising}
-use Rattle.verdict.proofs.Judged.{names-part, curves-no, curves-yes}
+use Rattle.agreement.proofs.Judged.{names-part, curves-no, curves-yes}
 use borrow.Author.Needs.{needs}
-use Rattle.verdict.proofs.judge.curves_agree.Statement.{statement}
-use Rattle.verdict.proofs.judge.curves_agree.Tie as tie
+use Rattle.agreement.proofs.agree.curves_agree.Statement.{statement}
+use Rattle.agreement.proofs.agree.curves_agree.Tie as tie
 
 keep-points-requires : tie.Need-keep-points-requires
 keep-points-requires c κs = search needs

@@ -7,7 +7,7 @@ ghost use Prim.Native.Nat.{_*_};
 ghost use lib.ListN.{length};
 ghost use Rattle.plane.specs.Size.{within};
 ghost use Rattle.paper.specs.Drawing.{recovered};
-ghost use Rattle.verdict.specs.Told.{told};
+ghost use Rattle.agreement.specs.Told.{told};
 
 // The side of a dart where it is present, else the label to the left.
 fn told(side: &[u16], line: u16, left: u16) -> u16

@@ -1,9 +1,9 @@
 use borrow.Author.Tests.{eq-eqb, ne-eqb}
 use Rattle.plane.specs.Dart.{mark}
-use Rattle.verdict.specs.Told.{told}
+use Rattle.agreement.specs.Told.{told}
 use borrow.Author.Needs.{needs}
-use Rattle.verdict.proofs.labels.told.Statement.{statement}
-use Rattle.verdict.proofs.labels.told.Tie as tie
+use Rattle.agreement.proofs.labels.told.Statement.{statement}
+use Rattle.agreement.proofs.labels.told.Tie as tie
 
 get-requires : tie.Need-get-requires
 get-requires c κs = search needs

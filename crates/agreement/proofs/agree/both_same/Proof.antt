@@ -1,7 +1,7 @@
-use Rattle.verdict.proofs.Judged.{both-no, both-yes}
+use Rattle.agreement.proofs.Judged.{both-no, both-yes}
 use borrow.Author.Needs.{needs}
-use Rattle.verdict.proofs.judge.both_same.Statement.{statement}
-use Rattle.verdict.proofs.judge.both_same.Tie as tie
+use Rattle.agreement.proofs.agree.both_same.Statement.{statement}
+use Rattle.agreement.proofs.agree.both_same.Tie as tie
 
 same-requires : tie.Need-same-requires
 same-requires c κs = search needs

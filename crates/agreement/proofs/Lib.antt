@@ -1,0 +1,2 @@
+pub mod Judged
+mod Told
