@@ -1,8 +1,7 @@
 -- What the counts may rely on once a check of the drawing has accepted the tables.
 use mathlib.Core.Path.{_≡_, sym, _∙_}
-use mathlib.Core.Bool.{true}
 use mathlib.Core.List.{List}
-use Prim.Native.Nat.{ℕ, _+_, _*_, _≤_, _<_}
+use Prim.Native.Nat.{ℕ, _+_, _*_, _≤_}
 use native.Mathlib.Omega.{arith}
 use lib.ListN.{length}
 use Rattle.plane.specs.Dart.{mark}
@@ -10,11 +9,10 @@ use Rattle.paper.specs.Drawing.{Tables}
 use Rattle.paper.specs.Refusal.{five}
 use Rattle.plane.proofs.Fit.{cells-fit}
 use Rattle.verdict.specs.declared.judge.Verdict.{Verdict}
-use Rattle.enclosure.specs.Tree.{known, Falls}
+use Rattle.enclosure.specs.Tree.{Falls}
 use Rattle.verdict.specs.Answer.{answered}
 use Rattle.verdict.specs.Check.{checked}
 use Rattle.drawing.proofs.Stated.{stated-parent}
-use Rattle.enclosure.proofs.Climb.{known-in}
 use Rattle.enclosure.proofs.Fall.{judged-falls}
 use Rattle.verdict.proofs.Refusing.{accepted-done, accepted-within, accepted-stated, accepted-judged}
 
@@ -33,11 +31,6 @@ module _ (w h : ℕ) (t : Tables) (ws vs : List (List ℕ)) (v : Verdict) (d : v
   pub accepted-fits : length (t .parent) ≤ mark
   unfolding mark
   accepted-fits = omega (arith, accepted-long, cells-fit w h (accepted-within w h t ws vs done))
-
-  -- a known name may be climbed from
-  pub accepted-known : (r : ℕ) → known (t .parent) r ≡ true
-      → Falls (t .parent) × (r < length (t .parent)) × (known (t .parent) r ≡ true)
-  accepted-known r k = (accepted-falls, known-in (t .parent) (omega (arith, accepted-long)) r k, k)
 
   -- all names may be counted, into tables as long
   pub accepted-all : (m n : ℕ) → m ≡ w * h + 1 → n ≡ w * h + 1

@@ -11,7 +11,8 @@ ghost use Rattle.drawing.specs.Given.{tables, works};
 ghost use Rattle.enclosure.specs.Tree.{known};
 ghost use Rattle.counts.specs.Tally.{tallied};
 ghost use Rattle.verdict.specs.Answer.{answered};
-ghost use Rattle.counts.specs.Answer.{count, counted, refused};
+ghost use Rattle.paper.specs.Enclosure.{depth, holes};
+ghost use Rattle.counts.specs.Answer.{count, counted, refused, after, Countable};
 
 // What a count answers: the number, or what is refused.
 pub enum Count {
@@ -63,6 +64,34 @@ fn refused(verdict: Verdict) -> Count
     }
 }
 
+// The depth after a check of the drawing: what the check refuses, or that no region has the name, comes first.
+fn depth_after(verdict: Verdict, parent: &[u16], name: u16) -> Count
+    requires { ⌜ Countable verdict (now parent) ⌝ }
+    ensures { λ r. ⌜ r ≡ after verdict (known (now (parent .entry)) name) (depth (now (parent .entry)) name) ⌝ }
+{
+    let Verdict::Done = verdict else {
+        return refused(verdict);
+    };
+    if !is_known(parent, name) {
+        return Count::Name;
+    }
+    Count::Is(tree::depth(parent, name))
+}
+
+// The hole count after a check of the drawing: what the check refuses, or that no region has the name, comes first.
+fn holes_after(verdict: Verdict, parent: &[u16], name: u16) -> Count
+    requires { ⌜ Countable verdict (now parent) ⌝ }
+    ensures { λ r. ⌜ r ≡ after verdict (known (now (parent .entry)) name) (holes (now (parent .entry)) name) ⌝ }
+{
+    let Verdict::Done = verdict else {
+        return refused(verdict);
+    };
+    if !is_known(parent, name) {
+        return Count::Name;
+    }
+    Count::Is(tree::holes(parent, name))
+}
+
 // The depth of a region, or of the outside for the name 0: refusals 1, 4, 5 and 8. The tables stay as they are; the work
 // tables are left at 1 and 4, else cleared.
 pub fn depth(
@@ -103,13 +132,7 @@ pub fn depth(
         c,
         d,
     );
-    let Verdict::Done = verdict else {
-        return refused(verdict);
-    };
-    if !is_known(parent, name) {
-        return Count::Name;
-    }
-    Count::Is(tree::depth(parent, name))
+    depth_after(verdict, parent, name)
 }
 
 // The hole count of a region, or of the outside for the name 0: refusals 1, 4, 5 and 8. The tables stay as they are; the
@@ -152,13 +175,7 @@ pub fn holes(
         c,
         d,
     );
-    let Verdict::Done = verdict else {
-        return refused(verdict);
-    };
-    if !is_known(parent, name) {
-        return Count::Name;
-    }
-    Count::Is(tree::holes(parent, name))
+    holes_after(verdict, parent, name)
 }
 
 // Depth and hole count of every name at once, of the outside and of each name in use; the mark for any other name. The
