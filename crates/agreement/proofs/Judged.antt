@@ -20,14 +20,14 @@ use Rattle.paper.specs.Drawing.{Tables, drawn, drawing, recovered, alike, same,
 use Rattle.paper.specs.Joining.{at, on}
 use Rattle.paper.proofs.Marks.{within-fits, cells-slots, names-side-small}
 use Rattle.paper.proofs.Judge.{alike-iff}
-use Rattle.region.specs.Frame.{framed}
+use Rattle.framing.specs.Frame.{framed}
 use Rattle.lines.specs.Mask.{masked}
 use Rattle.lines.specs.Line.{nexts, sides}
 use Rattle.curves.specs.Keep.{keeps}
 use Rattle.curves.specs.Link.{alongNext, alongOther}
 use Rattle.drawing.specs.Given.{tables}
 use Rattle.drawing.specs.Parts.{Lined, Kept, Curved, roundOf, masksOf, linesAgree, curvesAgree}
-use Rattle.region.specs.Frame.{surround}
+use Rattle.framing.specs.Frame.{surround}
 use Rattle.drawing.proofs.Whole.{line-next, line-side, curve-next, curve-other, parents-whole}
 
 pub names-part : (w h : ℕ) → w * h + 1 ≤ slots w h

@@ -16,7 +16,7 @@ use Rattle.paper.proofs.Sheet.{border-lines, border-below}
 use Rattle.paper.proofs.Marks.{within-fits, on-marked, names-side-small}
 use Rattle.paper.proofs.Piece.{tops-le}
 use Rattle.paper.proofs.Joined.{parents-drawn}
-use Rattle.region.specs.Frame.{framed}
+use Rattle.framing.specs.Frame.{framed}
 use Rattle.lines.specs.Mask.{masked}
 use Rattle.lines.specs.Line.{nexts, sides}
 use Rattle.curves.specs.Keep.{keeps}
@@ -25,7 +25,7 @@ use Rattle.levels.proofs.Paper.{masked-paper, nexts-paper, sides-paper, keeps-p
 use Rattle.enclosure.specs.Tops.{Rising}
 use Rattle.drawing.specs.Given.{tables}
 use Rattle.drawing.specs.Parts.{Lined, Kept, Curved}
-use Rattle.region.specs.Frame.{surround}
+use Rattle.framing.specs.Frame.{surround}
 
 pub tables-path : (x s y o p : List ℕ) (t : Tables) → x ≡ t .next1 → s ≡ t .side1 → y ≡ t .next3 → o ≡ t .other3
     → p ≡ t .parent → tables x s y o p ≡ t

@@ -14,7 +14,7 @@ use Rattle.paper.specs.Level.{tops}
 use Rattle.paper.specs.Enclosure.{parent}
 use Rattle.paper.specs.Drawing.{Tables, recovered, alike}
 use Rattle.paper.specs.Joining.{at, on}
-use Rattle.region.specs.Frame.{framed}
+use Rattle.framing.specs.Frame.{framed}
 use Rattle.lines.specs.Mask.{masked}
 use Rattle.lines.specs.Line.{nexts, sides}
 use Rattle.curves.specs.Keep.{keeps}

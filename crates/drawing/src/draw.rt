@@ -18,7 +18,7 @@ ghost use Rattle.plane.specs.Dart.{points, slots};
 ghost use Rattle.paper.specs.Enclosure.{parent};
 ghost use Rattle.paper.specs.Joining.{at, on};
 ghost use Rattle.drawing.specs.Parts.{Lined, Kept, Curved};
-ghost use Rattle.region.specs.Frame.{surround};
+ghost use Rattle.framing.specs.Frame.{surround};
 ghost use Rattle.enclosure.specs.Tops.{Rising};
 ghost use Rattle.drawing.specs.Given.{tables, works};
 ghost use Rattle.paper.specs.Drawing.{drawing};

@@ -27,8 +27,8 @@ use Rattle.paper.proofs.Next.{Lines, mask-below, has-mask, point-next}
 use Rattle.paper.proofs.Sheet.{border-lines, mask-present}
 use Rattle.paper.proofs.Piece.{length-tops}
 use Rattle.paper.proofs.Marks.{length-marked, at-held, on-marked, marked-same, marked-agree, names-side-small, next-stays, last-stays, lines-inside, along-on, next-small, along-next-small}
-use Rattle.region.specs.Frame.{framed}
-use Rattle.region.proofs.Surround.{cells-framed}
+use Rattle.framing.specs.Frame.{framed}
+use Rattle.framing.proofs.Surround.{cells-framed}
 use Rattle.lines.specs.Mask.{around, masked, ruled}
 use Rattle.lines.specs.Line.{lined, onward, nexts, others, beheld, sides}
 use Rattle.curves.specs.Keep.{kindAt, large, bends, stands, anchored, keeps}

@@ -11,7 +11,7 @@ use Rattle.paper.specs.Level.{tops}
 use Rattle.paper.specs.Joining.{on}
 use Rattle.paper.specs.Refusal.{levelTables}
 use Rattle.paper.proofs.Marks.{within-fits}
-use Rattle.region.specs.Frame.{framed}
+use Rattle.framing.specs.Frame.{framed}
 use Rattle.lines.specs.Mask.{masked, ruled}
 use Rattle.lines.specs.Line.{nexts, others, sides}
 use Rattle.curves.specs.Keep.{bends, keeps}

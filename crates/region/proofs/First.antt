@@ -5,7 +5,7 @@ use Prim.Native.Nat.{ℕ, suc, _*_}
 use Rattle.laws.specs.Least.{least}
 use Rattle.laws.proofs.Least.{least-le}
 use Rattle.paper.specs.Name.{west, north, names}
-use Rattle.region.specs.Frame.{Down}
+use Rattle.framing.specs.Frame.{Down}
 use Rattle.region.proofs.Neighbour.{west-back, north-back}
 
 module _ (w h : ℕ) (s : List ℕ) where

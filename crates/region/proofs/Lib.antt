@@ -1,6 +1,3 @@
-pub mod First
-pub mod Label
-pub mod Neighbour
-pub mod Reach
+mod First
+mod Neighbour
 pub mod Room
-pub mod Surround

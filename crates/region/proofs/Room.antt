@@ -8,7 +8,7 @@ use Rattle.laws.specs.Least.{least}
 use Rattle.plane.specs.Dart.{points, slots}
 use Rattle.paper.specs.Name.{west, north, names}
 use Rattle.paper.proofs.Marks.{cells-slots}
-use Rattle.region.specs.Frame.{Down, surround, framed}
+use Rattle.framing.specs.Frame.{Down, surround, framed}
 use Rattle.region.proofs.First.{first-down, first-names}
 
 module _ (w h : ℕ) where

@@ -1,4 +1,4 @@
-use crate::forest;
+use forest::nodes;
 ghost use mathlib.Core.Path.{_≡_};
 ghost use mathlib.Core.Bool.{true, cond, _&&_};
 ghost use Prim.Native.Nat.{suc, _*_, _-_, _%_, _<_, _≤_};
@@ -7,7 +7,7 @@ ghost use lib.ListN.{length};
 ghost use Rattle.laws.specs.Least.{tie, least};
 ghost use Rattle.plane.specs.Size.{within};
 ghost use Rattle.paper.specs.Name.{label, west, north};
-ghost use Rattle.region.specs.Forest.{Forest, Grown};
+ghost use Rattle.forest.specs.Forest.{Forest, Grown};
 
 // Cell j where it has the label of cell i, else cell i.
 fn alike(sheet: &[u16], i: u16, j: u16) -> u16
@@ -56,7 +56,7 @@ fn grow(width: u16, sheet: &[u16], first: &mut [u16], column: u16, i: u16)
 {
     let w = west(sheet, column, i);
     let n = north(width, sheet, i);
-    forest::plant(first, i, w, n);
+    nodes::plant(first, i, w, n);
 }
 
 // The first cell of the region of each cell: regions are cells of one label that touch side by side.
@@ -80,5 +80,5 @@ pub fn first_cells(width: u16, height: u16, sheet: &[u16], first: &mut [u16])
             column = 0;
         }
     }
-    forest::flatten(first);
+    nodes::flatten(first);
 }

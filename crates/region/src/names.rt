@@ -1,5 +1,5 @@
 use crate::cells;
-use crate::frame;
+use framing::frame;
 ghost use mathlib.Core.Path.{_≡_};
 ghost use mathlib.Core.Bool.{true};
 ghost use Prim.Native.Nat.{_*_};
@@ -7,7 +7,7 @@ ghost use lib.ListN.{length, take};
 ghost use Rattle.plane.specs.Size.{within};
 ghost use Rattle.plane.specs.Dart.{slots};
 ghost use Rattle.paper.specs.Name.{names};
-ghost use Rattle.region.specs.Frame.{surround, framed};
+ghost use Rattle.framing.specs.Frame.{surround, framed};
 
 // The names of a sheet with the outside round them, at the front of a work table. First is work.
 pub fn name_cells(width: u16, height: u16, sheet: &[u16], first: &mut [u16], round: &mut [u16])

@@ -1,4 +1,4 @@
-use crate::forest;
+use forest::nodes;
 use plane::dart;
 ghost use mathlib.Core.Path.{_≡_};
 ghost use mathlib.Core.Bool.{true, cond};
@@ -9,7 +9,7 @@ ghost use Rattle.plane.specs.Size.{widest, within};
 ghost use Rattle.plane.specs.Dart.{mark, points, slots, dart};
 ghost use Rattle.paper.specs.Level.{tops};
 ghost use Rattle.paper.specs.Joining.{on};
-ghost use Rattle.region.specs.Forest.{Forest, Grown};
+ghost use Rattle.forest.specs.Forest.{Forest, Grown};
 
 // The point so many points before a point where the dart is on, else the point itself. No point lies before point 0.
 fn toward(side: &[u16], dart: u16, point: u16, back: u16) -> u16
@@ -40,7 +40,7 @@ fn grow(width: u16, side: &[u16], top: &mut [u16], p: u16)
 {
     let w = toward(side, 4 * p + 2, p, 1);
     let n = toward(side, 4 * p + 3, p, width + 1);
-    forest::plant(top, p, w, n);
+    nodes::plant(top, p, w, n);
 }
 
 // The top of the piece of each point: pieces are points that lines which are present join, by the sides of level 1.
@@ -57,5 +57,5 @@ pub fn top_points(width: u16, height: u16, side: &[u16], top: &mut [u16])
         grow(width, side, top, p);
         p += 1;
     }
-    forest::flatten(top);
+    nodes::flatten(top);
 }

@@ -5,7 +5,6 @@ use Rattle.plane.proofs.Limit.{within-limits}
 use Rattle.plane.proofs.Fit.{points-fit}
 use Rattle.table.proofs.Front.{front-long}
 use Rattle.region.proofs.Room.{points-part}
-use borrow.Author.Needs.{needs}
 use Rattle.drawing.proofs.draw.draw_parents.Statement.{statement}
 use Rattle.drawing.proofs.draw.draw_parents.Tie as tie
 

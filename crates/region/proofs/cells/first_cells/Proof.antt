@@ -6,7 +6,7 @@ use Rattle.plane.proofs.Limit.{within-limits}
 use Rattle.paper.specs.Name.{west, north}
 use Rattle.laws.proofs.Column.{column-on, column-back}
 use Rattle.plane.proofs.Fit.{cells-fit}
-use Rattle.region.proofs.Reach.{Reached, growing, reached-none, reached-more, reached-grown, reached-least}
+use Rattle.forest.proofs.Reach.{Reached, growing, reached-none, reached-more, reached-grown, reached-least}
 use Rattle.region.proofs.cells.first_cells.Statement.{statement}
 use Rattle.region.proofs.cells.first_cells.Tie as tie
 

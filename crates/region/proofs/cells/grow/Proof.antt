@@ -2,7 +2,7 @@ use native.Mathlib.Nat.{mod-le}
 use native.Mathlib.Omega.{arith}
 use borrow.Author.Needs.{needs}
 use Rattle.region.proofs.Neighbour.{west-column, west-back, north-back}
-use Rattle.region.proofs.Reach.{tied-by}
+use Rattle.forest.proofs.Reach.{tied-by}
 use Rattle.region.proofs.cells.grow.Statement.{statement}
 use Rattle.region.proofs.cells.grow.Tie as tie
 

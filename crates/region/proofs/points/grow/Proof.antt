@@ -3,7 +3,7 @@ use borrow.Author.Needs.{needs}
 use Rattle.plane.specs.Size.{widest}
 use Rattle.plane.specs.Dart.{mark, dart}
 use Rattle.region.proofs.Neighbour.{toward-back}
-use Rattle.region.proofs.Reach.{tied-by}
+use Rattle.forest.proofs.Reach.{tied-by}
 use Rattle.region.proofs.points.grow.Statement.{statement}
 use Rattle.region.proofs.points.grow.Tie as tie
 

@@ -7,7 +7,7 @@ use Rattle.plane.proofs.Limit.{within-limits}
 use Rattle.paper.specs.Level.{tops}
 use Rattle.paper.specs.Joining.{on}
 use Rattle.plane.proofs.Fit.{points-fit, width-fit, darts-fit}
-use Rattle.region.proofs.Reach.{Reached, growing, reached-none, reached-more, reached-grown, reached-least}
+use Rattle.forest.proofs.Reach.{Reached, growing, reached-none, reached-more, reached-grown, reached-least}
 use Rattle.region.proofs.points.top_points.Statement.{statement}
 use Rattle.region.proofs.points.top_points.Tie as tie
 

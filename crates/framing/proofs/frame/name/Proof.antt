@@ -2,9 +2,9 @@ use Prim.Native.Nat.{_+_, _*_, _-_, _<_}
 use native.Mathlib.Omega.{arith}
 use borrow.Author.Needs.{needs}
 use Rattle.plane.proofs.Fit.{cells-fit}
-use Rattle.region.proofs.Surround.{named-west, named-north, named-south, named-cell, cell-in}
-use Rattle.region.proofs.frame.name.Statement.{statement}
-use Rattle.region.proofs.frame.name.Tie as tie
+use Rattle.framing.proofs.Surround.{named-west, named-north, named-south, named-cell, cell-in}
+use Rattle.framing.proofs.frame.name.Statement.{statement}
+use Rattle.framing.proofs.frame.name.Tie as tie
 
 returns : tie.Need-returns
 returns c = named-west _ _ _ _ _ (c .if1 .taken)

@@ -1,6 +1,6 @@
 use Prim.Native.Nat.{_-_}
 use native.Mathlib.Omega.{arith}
-use Rattle.region.proofs.Label.{
+use Rattle.forest.proofs.Label.{
   Flattened,
   flattened-none,
   flattened-long,
@@ -8,8 +8,8 @@ use Rattle.region.proofs.Label.{
   flattened-all,
   flattened-again,
 }
-use Rattle.region.proofs.forest.flatten.Statement.{statement}
-use Rattle.region.proofs.forest.flatten.Tie as tie
+use Rattle.forest.proofs.nodes.flatten.Statement.{statement}
+use Rattle.forest.proofs.nodes.flatten.Tie as tie
 
 abbrev Inv-loop : tie.InvT-loop
 Inv-loop nodes₀ n i₀ nodes i = Flattened nodes₀ nodes i

@@ -3,7 +3,7 @@ use mathlib.Core.List.{map}
 use Prim.Native.Nat.{suc, _-_}
 use native.Mathlib.Omega.{arith}
 use Rattle.plane.proofs.Fit.{frame-fit}
-use Rattle.region.proofs.Surround.{
+use Rattle.framing.proofs.Surround.{
   Framing,
   framing-none,
   framing-column,
@@ -12,8 +12,8 @@ use Rattle.region.proofs.Surround.{
   framing-down,
   framing-all,
 }
-use Rattle.region.proofs.frame.frame.Statement.{statement}
-use Rattle.region.proofs.frame.frame.Tie as tie
+use Rattle.framing.proofs.frame.frame.Statement.{statement}
+use Rattle.framing.proofs.frame.frame.Tie as tie
 
 abbrev Inv-loop : tie.InvT-loop
 Inv-loop width height first names₀ n i₀ x₀ y₀ names i x y = Framing width height (map suc first) names i x y

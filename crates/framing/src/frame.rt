@@ -6,7 +6,7 @@ ghost use lib.ListN.{length};
 ghost use Rattle.plane.specs.Size.{within};
 ghost use Rattle.plane.specs.Dart.{points};
 ghost use Rattle.paper.specs.Name.{named};
-ghost use Rattle.region.specs.Frame.{Down, framed};
+ghost use Rattle.framing.specs.Frame.{Down, framed};
 
 // The name of the cell in column x - 1 and row y - 1, and 0 for the outside.
 fn name(width: u16, height: u16, first: &[u16], x: u16, y: u16) -> u16

@@ -1,8 +1,8 @@
 use native.Mathlib.Omega.{arith}
 use borrow.Author.Needs.{needs}
-use Rattle.region.proofs.Label.{linked}
-use Rattle.region.proofs.forest.link.Statement.{statement}
-use Rattle.region.proofs.forest.link.Tie as tie
+use Rattle.forest.proofs.Label.{linked}
+use Rattle.forest.proofs.nodes.link.Statement.{statement}
+use Rattle.forest.proofs.nodes.link.Tie as tie
 
 mul-nodes : tie.Need-mul-nodes
 mul-nodes c = search needs

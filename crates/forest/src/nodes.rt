@@ -3,7 +3,7 @@ ghost use mathlib.Core.List.{List, map};
 ghost use Prim.Native.Nat.{ℕ, suc, _<_, _≤_};
 ghost use lib.ListN.{length, getD};
 ghost use Rattle.laws.specs.Least.{lower, tie};
-ghost use Rattle.region.specs.Forest.{Forest, Grown, Planted, Found};
+ghost use Rattle.forest.specs.Forest.{Forest, Grown, Planted, Found};
 
 // A forest in a table: each node's entry is a node no greater, of the same tree; a root's entry is the root itself.
 

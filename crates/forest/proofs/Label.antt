@@ -15,7 +15,7 @@ use lib.Seq.{ext-getD}
 use Rattle.laws.specs.Least.{lower, tie}
 use Rattle.laws.proofs.Least.{lower-cases, lower-le, lower-other, getD-lower}
 use Rattle.table.proofs.Entries.{set-cases}
-use Rattle.region.specs.Forest.{Leads, Labels, Forest, Grown, Planted, Found}
+use Rattle.forest.specs.Forest.{Leads, Labels, Forest, Grown, Planted, Found}
 
 -- Entries.
 module _ (l : List ℕ) where

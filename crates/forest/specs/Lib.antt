@@ -1,2 +1,1 @@
 pub mod Forest
-pub mod Frame

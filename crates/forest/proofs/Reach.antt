@@ -12,7 +12,7 @@ use lib.ListN.{length, getD}
 use Rattle.laws.specs.Table.{table}
 use Rattle.laws.specs.Least.{tie, ties, least}
 use Rattle.laws.proofs.Table.{length-table, getD-table, getD-table-past}
-use Rattle.region.specs.Forest.{Forest, Grown}
+use Rattle.forest.specs.Forest.{Forest, Grown}
 
 abbrev pub reached : ℕ → (ℕ → ℕ) → (ℕ → ℕ) → ℕ → List ℕ
 reached n b c i = ties b c i (table n (λ k. k))

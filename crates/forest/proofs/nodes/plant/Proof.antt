@@ -1,9 +1,9 @@
 use mathlib.Core.Path.{_∙_}
 use borrow.Author.Needs.{needs}
 use lib.ListN.{length-set}
-use Rattle.region.proofs.Label.{sprouted, led-planted, roots-room, tied}
-use Rattle.region.proofs.forest.plant.Statement.{statement}
-use Rattle.region.proofs.forest.plant.Tie as tie
+use Rattle.forest.proofs.Label.{sprouted, led-planted, roots-room, tied}
+use Rattle.forest.proofs.nodes.plant.Statement.{statement}
+use Rattle.forest.proofs.nodes.plant.Tie as tie
 
 mul-nodes : tie.Need-mul-nodes
 mul-nodes c = search needs

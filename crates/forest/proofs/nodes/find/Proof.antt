@@ -1,5 +1,5 @@
 use native.Mathlib.Omega.{arith}
-use Rattle.region.proofs.Label.{
+use Rattle.forest.proofs.Label.{
   Halved,
   halved-none,
   halved-again,
@@ -9,8 +9,8 @@ use Rattle.region.proofs.Label.{
   halved-room,
   halved-up,
 }
-use Rattle.region.proofs.forest.find.Statement.{statement}
-use Rattle.region.proofs.forest.find.Tie as tie
+use Rattle.forest.proofs.nodes.find.Statement.{statement}
+use Rattle.forest.proofs.nodes.find.Tie as tie
 
 abbrev Inv-loop : tie.InvT-loop
 Inv-loop nodes₀ i node₀ nodes node = Halved i nodes₀ nodes node

@@ -1,0 +1,2 @@
+mod Label
+pub mod Reach
