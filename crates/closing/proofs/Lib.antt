@@ -1,4 +1,3 @@
 pub mod Closing
 pub mod Going
-pub mod Lowering
 pub mod Splicing

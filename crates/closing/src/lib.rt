@@ -1,5 +1,3 @@
-// Steps 3 to 5 of the removal rule, all but the parents: points that two edges meet at go, closed curves move to their
-// anchors, side names become the smaller of the two.
+// Steps 3 and 4 of the removal rule: points that two edges meet at go, closed curves move to their anchors.
 pub mod close;
-pub mod side;
 pub mod smooth;

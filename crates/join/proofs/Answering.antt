@@ -26,13 +26,13 @@ use Rattle.verdict.specs.Check.{checked}
 use Rattle.verdict.proofs.Refusing.{accepted-done}
 use Rattle.verdict.proofs.Refusing.{tag-number, refused-stops}
 use Rattle.verdict.proofs.Refusing.{accepted-within, accepted-stated, accepted-judged, accepted-work, accepted-on}
-use Rattle.join.specs.declared.regions.Joined.{Joined}
-use Rattle.join.specs.Answer.{number, refused, named}
+use Rattle.pairs.specs.declared.answer.Joined.{Joined}
+use Rattle.pairs.specs.Answer.{number, refused, named}
 use Rattle.joining.specs.Apply.{Ready}
 use Rattle.join.specs.Faithful.{Faithful}
 use Rattle.joining.proofs.Readiness.{drawn-ready}
 use Rattle.join.proofs.Afresh.{joined-faithful}
-use Rattle.join.proofs.regions.Joined.{the-type}
+use Rattle.pairs.proofs.answer.Joined.{the-type}
 
 -- Work tables that are cleared are as long as they were, and clearing them again changes nothing.
 cleared-twice : (ws : List (List ℕ)) → cleared (cleared ws) ≡ cleared ws

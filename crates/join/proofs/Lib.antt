@@ -1,3 +1,2 @@
-pub mod Afresh
-pub mod Answering
-pub mod Naming
+mod Afresh
+mod Answering

@@ -1,3 +1,2 @@
 // Joining two regions of a drawing: the check, the names, then the removal rule.
-mod adjoin;
 pub mod regions;

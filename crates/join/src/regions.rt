@@ -1,7 +1,7 @@
-use crate::adjoin;
 use joining::apply;
-use plane::dart;
-use table::entry;
+use pairs::adjoin;
+use pairs::answer;
+use pairs::answer::Joined;
 use verdict::judge;
 use verdict::judge::Verdict;
 ghost use mathlib.Core.Path.{_≡_};
@@ -9,79 +9,8 @@ ghost use mathlib.Core.List.{[]};
 ghost use Rattle.paper.specs.Refusal.{five, merged};
 ghost use Rattle.drawing.specs.Given.{tables, works};
 ghost use Rattle.drawing.specs.Answer.{left};
-ghost use Rattle.join.specs.Answer.{number, refused, named};
+ghost use Rattle.pairs.specs.Answer.{number};
 ghost use Rattle.join.specs.Faithful.{Faithful};
-
-// What joining answers: done, or what is refused.
-pub enum Joined {
-    Done,
-    // The width or the height is not 1 to the greatest.
-    Size,
-    // The length of a lent table or work table is not the stated one.
-    Tables,
-    // The tables are the drawing of no sheet of this size.
-    Drawing,
-    // A name is the outside's.
-    Outside,
-    // The two names are equal.
-    Equal,
-    // No region has one of the names.
-    Name,
-    // The two regions share no line.
-    Apart,
-}
-
-impl Joined {
-    // The number of the refusal, 0 for done.
-    pub fn number(self) -> u16
-        ensures { λ r. ⌜ r ≡ number self ⌝ }
-    {
-        match self {
-            Joined::Done => 0,
-            Joined::Size => 1,
-            Joined::Tables => 4,
-            Joined::Drawing => 5,
-            Joined::Outside => 6,
-            Joined::Equal => 7,
-            Joined::Name => 8,
-            Joined::Apart => 9,
-        }
-    }
-}
-
-// What joining answers where a check of the drawing refuses.
-fn refused(verdict: Verdict) -> Joined
-    ensures { λ r. ⌜ r ≡ refused verdict ⌝ }
-{
-    match verdict {
-        Verdict::Done => Joined::Done,
-        Verdict::Size => Joined::Size,
-        Verdict::Tables => Joined::Tables,
-        Verdict::Drawing => Joined::Drawing,
-    }
-}
-
-// What joining answers to two names, by the parents of the drawing: done where both are regions and differ.
-fn check_names(parent: &[u16], a: u16, b: u16) -> Joined
-    ensures { λ r. ⌜ r ≡ named (now (parent .entry)) a b ⌝ }
-{
-    if a == 0 {
-        return Joined::Outside;
-    }
-    if b == 0 {
-        return Joined::Outside;
-    }
-    if a == b {
-        return Joined::Equal;
-    }
-    if entry::get(parent, a) == dart::MARK {
-        return Joined::Name;
-    }
-    if entry::get(parent, b) == dart::MARK {
-        return Joined::Name;
-    }
-    Joined::Done
-}
 
 // Joins the regions a and b of a drawing, in its five tables, which come to equal the drawing afresh. Refusals 1, 4, 5,
 // then 6 where a name is 0, 7 where the names are equal, 8 where no region has one of them, 9 where the two share no
@@ -133,11 +62,11 @@ pub fn join(
         work_d,
     );
     let Verdict::Done = verdict else {
-        return refused(verdict);
+        return answer::refused(verdict);
     };
-    let answer = check_names(parent, a, b);
-    let Joined::Done = answer else {
-        return answer;
+    let named = answer::check_names(parent, a, b);
+    let Joined::Done = named else {
+        return named;
     };
     if !adjoin::adjoin(width, height, side1, a, b) {
         return Joined::Apart;

@@ -1,5 +1,5 @@
 use closing::close;
-use closing::side;
+use lowering::side;
 use closing::smooth;
 use dropping::drop;
 use dropping::list;

@@ -1,7 +1,7 @@
-use Rattle.join.specs.Answer.{refused}
+use Rattle.pairs.specs.Answer.{refused}
 use borrow.Author.Needs.{needs}
-use Rattle.join.proofs.regions.refused.Statement.{statement}
-use Rattle.join.proofs.regions.refused.Tie as tie
+use Rattle.pairs.proofs.answer.refused.Statement.{statement}
+use Rattle.pairs.proofs.answer.refused.Tie as tie
 
 enum-told : tie.Need-enum-told
 enum-told c = search needs

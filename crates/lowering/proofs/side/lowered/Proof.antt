@@ -1,7 +1,7 @@
 use native.Mathlib.Omega.{arith}
-use Rattle.closing.proofs.Lowering.{lower-by}
-use Rattle.closing.proofs.side.lowered.Statement.{statement}
-use Rattle.closing.proofs.side.lowered.Tie as tie
+use Rattle.lowering.proofs.Lowering.{lower-by}
+use Rattle.lowering.proofs.side.lowered.Statement.{statement}
+use Rattle.lowering.proofs.side.lowered.Tie as tie
 
 returns : tie.Need-returns
 returns c = lower-by _ _ _ _ (λ p. omega arith) (λ p. omega arith)

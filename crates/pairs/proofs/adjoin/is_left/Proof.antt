@@ -1,6 +1,6 @@
 use borrow.Author.Needs.{needs}
-use Rattle.join.proofs.adjoin.is_left.Statement.{statement}
-use Rattle.join.proofs.adjoin.is_left.Tie as tie
+use Rattle.pairs.proofs.adjoin.is_left.Statement.{statement}
+use Rattle.pairs.proofs.adjoin.is_left.Tie as tie
 
 reversal-requires : tie.Need-reversal-requires
 reversal-requires c κs = search needs

@@ -7,8 +7,8 @@ use Prim.Native.Nat.{ℕ}
 use borrow.Author.Tests.{eq-eqb, ne-eqb}
 use Rattle.plane.specs.Dart.{mark}
 use Rattle.paper.specs.Joining.{at}
-use Rattle.join.specs.declared.regions.Joined.{Joined}
-use Rattle.join.specs.Answer.{named}
+use Rattle.pairs.specs.declared.answer.Joined.{Joined}
+use Rattle.pairs.specs.Answer.{named}
 use Rattle.table.proofs.Entries.{on-entry}
 use Rattle.table.proofs.Entries.{on-mark}
 

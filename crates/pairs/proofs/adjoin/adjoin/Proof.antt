@@ -8,8 +8,8 @@ use Rattle.plane.specs.Dart.{mark, points, slots, reversal}
 use Rattle.plane.proofs.Limit.{within-limits}
 use Rattle.paper.specs.Joining.{shared}
 use Rattle.plane.proofs.Fit.{points-fit}
-use Rattle.join.proofs.adjoin.adjoin.Statement.{statement}
-use Rattle.join.proofs.adjoin.adjoin.Tie as tie
+use Rattle.pairs.proofs.adjoin.adjoin.Statement.{statement}
+use Rattle.pairs.proofs.adjoin.adjoin.Tie as tie
 
 abbrev Inv-loop : tie.InvT-loop
 Inv-loop width height side a b n d₀ d = (k : ℕ) → k < d → shared side (reversal width) a b k ≡ false

@@ -5,10 +5,10 @@ use native.Mathlib.Omega.{arith}
 use Rattle.laws.specs.Least.{lower}
 use Rattle.plane.specs.Dart.{mark}
 use Rattle.paper.specs.Joining.{at, on}
-use Rattle.closing.proofs.Lowering.{side-more}
+use Rattle.lowering.proofs.Lowering.{side-more}
 use Rattle.table.proofs.Half.{Half, half-none, half-more, half-all}
-use Rattle.closing.proofs.side.lower_sides.Statement.{statement}
-use Rattle.closing.proofs.side.lower_sides.Tie as tie
+use Rattle.lowering.proofs.side.lower_sides.Statement.{statement}
+use Rattle.lowering.proofs.side.lower_sides.Tie as tie
 
 abbrev Inv-loop : tie.InvT-loop
 Inv-loop a b lines side₀ n i₀ side i = Half (λ d. cond (on lines d) (lower a b (at side₀ d)) mark) i side₀ side

@@ -8,7 +8,7 @@ use Prim.Native.Nat.{ℕ}
 use lib.Dec.{eqb}
 use Rattle.paper.specs.Joining.{on}
 use Rattle.verdict.specs.declared.judge.Verdict.{Verdict}
-use Rattle.join.specs.declared.regions.Joined.{Joined}
+use Rattle.pairs.specs.declared.answer.Joined.{Joined}
 
 unfoldable pub number : Joined → ℕ
 number Joined.Done = 0

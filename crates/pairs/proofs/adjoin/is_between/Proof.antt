@@ -1,8 +1,8 @@
 use mathlib.Core.Path.{_∙_}
 use borrow.Author.Needs.{needs}
 use Rattle.dropping.proofs.Sharing.{shared-first, shared-second, shared-neither}
-use Rattle.join.proofs.adjoin.is_between.Statement.{statement}
-use Rattle.join.proofs.adjoin.is_between.Tie as tie
+use Rattle.pairs.proofs.adjoin.is_between.Statement.{statement}
+use Rattle.pairs.proofs.adjoin.is_between.Tie as tie
 
 get-requires : tie.Need-get-requires
 get-requires c κs = tt

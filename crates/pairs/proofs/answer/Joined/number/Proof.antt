@@ -1,7 +1,7 @@
-use Rattle.join.specs.Answer.{number}
+use Rattle.pairs.specs.Answer.{number}
 use borrow.Author.Needs.{needs}
-use Rattle.join.proofs.regions.Joined.number.Statement.{statement}
-use Rattle.join.proofs.regions.Joined.number.Tie as tie
+use Rattle.pairs.proofs.answer.Joined.number.Statement.{statement}
+use Rattle.pairs.proofs.answer.Joined.number.Tie as tie
 
 enum-told : tie.Need-enum-told
 enum-told c = search needs

@@ -1,7 +1,7 @@
 use borrow.Author.Tests.{eq-eqb, ne-eqb}
 use Rattle.plane.specs.Dart.{mark}
-use Rattle.closing.proofs.side.side_left.Statement.{statement}
-use Rattle.closing.proofs.side.side_left.Tie as tie
+use Rattle.lowering.proofs.side.side_left.Statement.{statement}
+use Rattle.lowering.proofs.side.side_left.Tie as tie
 
 returns : tie.Need-returns
 unfolding mark

@@ -1,8 +1,8 @@
 use Rattle.plane.specs.Dart.{mark}
-use Rattle.join.proofs.Naming.{named-first-outside, named-second-outside, named-equal}
-use Rattle.join.proofs.Naming.{named-first-unused, named-second-unused, named-done}
-use Rattle.join.proofs.regions.check_names.Statement.{statement}
-use Rattle.join.proofs.regions.check_names.Tie as tie
+use Rattle.pairs.proofs.Naming.{named-first-outside, named-second-outside, named-equal}
+use Rattle.pairs.proofs.Naming.{named-first-unused, named-second-unused, named-done}
+use Rattle.pairs.proofs.answer.check_names.Statement.{statement}
+use Rattle.pairs.proofs.answer.check_names.Tie as tie
 
 returns : tie.Need-returns
 returns c = named-first-outside _ _ _ (c .if1 .taken)
