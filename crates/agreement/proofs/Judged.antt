@@ -21,9 +21,9 @@ use Rattle.paper.specs.Joining.{at, on}
 use Rattle.paper.proofs.Marks.{within-fits, cells-slots, names-side-small}
 use Rattle.paper.proofs.Judge.{alike-iff}
 use Rattle.framing.specs.Frame.{framed}
-use Rattle.lines.specs.Mask.{masked}
+use Rattle.masks.specs.Mask.{masked}
 use Rattle.lines.specs.Line.{nexts, sides}
-use Rattle.curves.specs.Keep.{keeps}
+use Rattle.keeping.specs.Keep.{keeps}
 use Rattle.curves.specs.Link.{alongNext, alongOther}
 use Rattle.drawing.specs.Given.{tables}
 use Rattle.drawing.specs.Parts.{Lined, Kept, Curved, roundOf, masksOf, linesAgree, curvesAgree}

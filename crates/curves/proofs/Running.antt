@@ -2,7 +2,7 @@
 --   lastOf n x k d  == the last dart of the run from d along x, looked for n steps far
 --   Running n x k s i d a == with i steps left, the run from s is that from d, and a is next of d
 use mathlib.Core.Path.{_≡_, refl, sym, ap, _∙_}
-use mathlib.Core.Bool.{true, false, cond}
+use mathlib.Core.Bool.{true, false, cond, and-false}
 use mathlib.Core.List.{List}
 use mathlib.Core.Logic.{_≢_}
 use Prim.Native.Nat.{ℕ, suc, _+_, _*_, _-_, _/_, _%_, _≤_, _<_}
@@ -13,7 +13,6 @@ use Rattle.laws.proofs.Walk.{run-stop, run-go}
 use Rattle.plane.specs.Dart.{mark, dart, point, direction, turned}
 use Rattle.paper.specs.Joining.{at, on}
 use Rattle.curves.specs.Link.{ahead, keptAt, starts, lastOf, back}
-use Rattle.curves.proofs.Flags.{and-none}
 
 pub record Running (n : ℕ) (x k : List ℕ) (s i d a : ℕ) : Type 0 where
   pub same : lastOf n x k s ≡ lastOf i x k d
@@ -64,7 +63,7 @@ module _ (x k : List ℕ) (d : ℕ) where
 
   out-start : at k (d / 4) ≢ 1 → starts x k d ≡ false
   unfolding starts keptAt point
-  out-start f = rw (ne-eqb _ 1 f) (and-none (on x d))
+  out-start f = rw (ne-eqb _ 1 f) (and-false (on x d))
 
   in-start : at x d ≢ mark → at k (d / 4) ≡ 1 → starts x k d ≡ true
   unfolding starts on keptAt point

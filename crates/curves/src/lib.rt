@@ -1,3 +1,2 @@
-// Curves between kept points: the points that levels 2 and 3 keep, and the links along the lines between them.
-pub mod keep;
+// Curves between kept points: the links along the lines of level 1 from each kept point to the next.
 pub mod link;

@@ -6,9 +6,9 @@ use lib.ListN.{take}
 use Rattle.plane.specs.Dart.{points}
 use Rattle.paper.specs.Level.{tops}
 use Rattle.paper.specs.Joining.{on}
-use Rattle.lines.specs.Mask.{masked}
+use Rattle.masks.specs.Mask.{masked}
 use Rattle.lines.specs.Line.{nexts, sides}
-use Rattle.curves.specs.Keep.{keeps}
+use Rattle.keeping.specs.Keep.{keeps}
 use Rattle.drawing.specs.Parts.{Lined, Kept}
 
 module _ (w h : ℕ) where

@@ -17,9 +17,9 @@ use Rattle.paper.proofs.Marks.{within-fits, on-marked, names-side-small}
 use Rattle.paper.proofs.Piece.{tops-le}
 use Rattle.paper.proofs.Joined.{parents-drawn}
 use Rattle.framing.specs.Frame.{framed}
-use Rattle.lines.specs.Mask.{masked}
+use Rattle.masks.specs.Mask.{masked}
 use Rattle.lines.specs.Line.{nexts, sides}
-use Rattle.curves.specs.Keep.{keeps}
+use Rattle.keeping.specs.Keep.{keeps}
 use Rattle.curves.specs.Link.{keptAt, alongNext, alongOther}
 use Rattle.levels.proofs.Paper.{masked-paper, nexts-paper, sides-paper, keeps-paper, alongNext-paper, alongOther-paper}
 use Rattle.enclosure.specs.Tops.{Rising}

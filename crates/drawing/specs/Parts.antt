@@ -15,9 +15,9 @@ use Rattle.paper.specs.Enclosure.{parent}
 use Rattle.paper.specs.Drawing.{Tables, recovered, alike}
 use Rattle.paper.specs.Joining.{at, on}
 use Rattle.framing.specs.Frame.{framed}
-use Rattle.lines.specs.Mask.{masked}
+use Rattle.masks.specs.Mask.{masked}
 use Rattle.lines.specs.Line.{nexts, sides}
-use Rattle.curves.specs.Keep.{keeps}
+use Rattle.keeping.specs.Keep.{keeps}
 use Rattle.curves.specs.Link.{alongNext, alongOther}
 
 pub record Lined (w h : ℕ) (f m x s : List ℕ) : Type 0 where

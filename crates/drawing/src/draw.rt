@@ -1,9 +1,9 @@
 use crate::lengths;
-use curves::keep;
 use curves::link;
 use enclosure::parent;
+use keeping::keep;
 use lines::line;
-use lines::mask;
+use masks::mask;
 use plane::size;
 use region::names;
 use region::points;

@@ -29,9 +29,9 @@ use Rattle.paper.proofs.Piece.{length-tops}
 use Rattle.paper.proofs.Marks.{length-marked, at-held, on-marked, marked-same, marked-agree, names-side-small, next-stays, last-stays, lines-inside, along-on, next-small, along-next-small}
 use Rattle.framing.specs.Frame.{framed}
 use Rattle.framing.proofs.Surround.{cells-framed}
-use Rattle.lines.specs.Mask.{around, masked, ruled}
+use Rattle.masks.specs.Mask.{around, masked, ruled}
 use Rattle.lines.specs.Line.{lined, onward, nexts, others, beheld, sides}
-use Rattle.curves.specs.Keep.{kindAt, large, bends, stands, anchored, keeps}
+use Rattle.keeping.specs.Keep.{kindAt, large, bends, stands, anchored, keeps}
 use Rattle.curves.specs.Link.{ahead, keptAt, starts, lastOf, back, alongNext, alongOther, alongSide}
 use Rattle.levels.specs.Tables.{plainTables, alongTables, tablesOf}
 

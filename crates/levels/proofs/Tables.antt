@@ -12,9 +12,9 @@ use Rattle.paper.specs.Joining.{on}
 use Rattle.paper.specs.Refusal.{levelTables}
 use Rattle.paper.proofs.Marks.{within-fits}
 use Rattle.framing.specs.Frame.{framed}
-use Rattle.lines.specs.Mask.{masked, ruled}
+use Rattle.masks.specs.Mask.{masked, ruled}
 use Rattle.lines.specs.Line.{nexts, others, sides}
-use Rattle.curves.specs.Keep.{bends, keeps}
+use Rattle.keeping.specs.Keep.{bends, keeps}
 use Rattle.curves.specs.Link.{alongNext, alongOther, alongSide}
 use Rattle.levels.specs.Tables.{plainTables, alongTables, tablesOf}
 use Rattle.levels.proofs.Paper.{levelTables-paper}

@@ -6,9 +6,9 @@ use mathlib.Core.List.{List, [], _∷_}
 use Prim.Native.Nat.{ℕ, zero, suc}
 use Rattle.paper.specs.Level.{tops}
 use Rattle.paper.specs.Joining.{on}
-use Rattle.lines.specs.Mask.{masked, ruled}
+use Rattle.masks.specs.Mask.{masked, ruled}
 use Rattle.lines.specs.Line.{nexts, others, sides}
-use Rattle.curves.specs.Keep.{bends, keeps}
+use Rattle.keeping.specs.Keep.{bends, keeps}
 use Rattle.curves.specs.Link.{alongNext, alongOther, alongSide}
 
 unfoldable pub plainTables : ℕ → ℕ → List ℕ → List ℕ → List (List ℕ)

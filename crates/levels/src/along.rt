@@ -1,7 +1,7 @@
-use curves::keep;
 use curves::link;
+use keeping::keep;
 use lines::line;
-use lines::mask;
+use masks::mask;
 use region::points;
 ghost use mathlib.Core.Path.{_≡_};
 ghost use mathlib.Core.Bool.{true};
@@ -13,8 +13,8 @@ ghost use Rattle.plane.specs.Dart.{points, slots};
 ghost use Rattle.paper.specs.Level.{tops};
 ghost use Rattle.paper.specs.Joining.{on};
 ghost use Rattle.lines.specs.Line.{nexts, sides};
-ghost use Rattle.lines.specs.Mask.{masked};
-ghost use Rattle.curves.specs.Keep.{keeps};
+ghost use Rattle.masks.specs.Mask.{masked};
+ghost use Rattle.keeping.specs.Keep.{keeps};
 ghost use Rattle.levels.specs.Tables.{alongTables, tablesOf};
 
 // The lines of level 1 with their next and side.

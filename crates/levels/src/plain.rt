@@ -1,5 +1,5 @@
 use lines::line;
-use lines::mask;
+use masks::mask;
 ghost use mathlib.Core.Path.{_≡_};
 ghost use mathlib.Core.Bool.{true};
 ghost use mathlib.Core.List.{[], _∷_};

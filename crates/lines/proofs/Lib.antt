@@ -1,2 +1,1 @@
 pub mod Pointing
-pub mod Ruling

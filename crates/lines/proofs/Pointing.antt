@@ -16,7 +16,7 @@ use Rattle.plane.specs.Point.{half, has, right}
 use Rattle.rules.specs.Turn.{turn, turnOf}
 use Rattle.plane.proofs.Darts.{point-dart, direction-dart, turned-below, far-dart, reversal-dart}
 use Rattle.paper.specs.Joining.{at}
-use Rattle.lines.specs.Mask.{around}
+use Rattle.masks.specs.Mask.{around}
 use Rattle.lines.specs.Line.{lined, onward, beheld, turning, fourAt, entryOf, pointed}
 use Rattle.table.proofs.Filled.{Filled, filled-more}
 

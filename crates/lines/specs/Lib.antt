@@ -1,2 +1,1 @@
-pub mod Mask
 pub mod Line

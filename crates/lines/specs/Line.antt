@@ -16,7 +16,7 @@ use Rattle.plane.specs.Point.{has, right}
 use Rattle.rules.specs.Turn.{turnOf}
 use Rattle.paper.specs.Level.{marked}
 use Rattle.paper.specs.Joining.{at}
-use Rattle.lines.specs.Mask.{around}
+use Rattle.masks.specs.Mask.{around}
 
 unfoldable pub lined : List ℕ → ℕ → Bool
 lined m d = has (at m (point d)) (direction d)

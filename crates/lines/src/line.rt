@@ -1,4 +1,4 @@
-use crate::mask;
+use masks::mask;
 use plane::dart;
 use rules::turn;
 use table::entry;

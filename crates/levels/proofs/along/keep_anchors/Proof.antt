@@ -1,5 +1,5 @@
 use Prim.Native.Nat.{_+_, _*_}
-use Rattle.curves.specs.Keep.{keeps}
+use Rattle.keeping.specs.Keep.{keeps}
 use denote.Ref.{now}
 use lib.Seq.{length-take-le}
 use Rattle.table.proofs.Front.{front-back, back-in, back-long}
