@@ -1,9 +1,9 @@
 use closing::close;
-use lowering::side;
 use closing::smooth;
 use dropping::drop;
 use dropping::list;
 use enclosure::parent;
+use lowering::side;
 use region::points;
 use table::entry;
 ghost use mathlib.Core.Path.{_≡_};
