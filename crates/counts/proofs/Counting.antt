@@ -21,8 +21,8 @@ use Rattle.verdict.specs.Answer.{answer, answered}
 use Rattle.verdict.specs.Check.{checkRefusal, checked}
 use Rattle.verdict.proofs.judge.Verdict.{the-type}
 use Rattle.verdict.proofs.Refusing.{again, refused-stops, tag-number, number, work, accepted-on, accepted-work}
-use Rattle.counts.specs.declared.count.Count.{Count}
-use Rattle.counts.specs.Answer.{count, values, counted, refused}
+use Rattle.counting.specs.declared.answer.Count.{Count}
+use Rattle.counting.specs.Answer.{values, counted, refused}
 use Rattle.counts.specs.Tally.{tallyRefusal, tallied}
 
 -- A count of the name r after it.
@@ -32,7 +32,7 @@ module _ (w h : ℕ) (t : Tables) (r : ℕ) (ws vs : List (List ℕ)) where
 
   -- the count's answer tells what the verdict tells
   same-answer : (v : Verdict) (j : ℕ) → answer v ≡ suc j → counted (refused v) (five t) vs ≡ answered v (five t) vs
-  unfolding answered count values counted refused
+  unfolding answered values counted refused
   same-answer Verdict.Done j p = absurd (omega arith)
   same-answer Verdict.Size j p = refl
   same-answer Verdict.Tables j p = refl
@@ -54,12 +54,12 @@ module _ (w h : ℕ) (t : Tables) (r : ℕ) (ws vs : List (List ℕ)) where
 
     pub count-name : (x : ℕ) → known (t .parent) r ≡ false
         → counted Count.Name (five t) vs ≡ outcome (countRefusal w h t r ws) (x ∷ []) (five t) (five t) ws
-    unfolding count values counted outcome
+    unfolding values counted outcome
     count-name x k = rw (goes-on, k, accepted-work w h t ws vs e)
 
     pub count-is : (x : ℕ) → known (t .parent) r ≡ true
         → counted (Count.Is x) (five t) vs ≡ outcome (countRefusal w h t r ws) (x ∷ []) (five t) (five t) ws
-    unfolding count values counted outcome
+    unfolding values counted outcome
     count-is x k = rw (goes-on, k, accepted-work w h t ws vs e)
 
 and-false : (b : Bool) → (b && false) ≡ false

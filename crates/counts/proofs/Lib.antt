@@ -1,3 +1,3 @@
 pub mod Counting
 pub mod Accepted
-mod After
+mod Told

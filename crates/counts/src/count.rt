@@ -1,96 +1,16 @@
+use counting::answer;
+use counting::answer::Count;
 use enclosure::tree;
-use plane::dart;
 use plane::size;
-use table::entry;
 use verdict::judge;
 use verdict::judge::Verdict;
 ghost use mathlib.Core.Path.{_≡_};
 ghost use mathlib.Core.List.{[], _∷_, _++_};
 ghost use Rattle.paper.specs.Refusal.{five, deepened, holed};
 ghost use Rattle.drawing.specs.Given.{tables, works};
-ghost use Rattle.enclosure.specs.Tree.{known};
 ghost use Rattle.counts.specs.Tally.{tallied};
 ghost use Rattle.verdict.specs.Answer.{answered};
-ghost use Rattle.paper.specs.Enclosure.{depth, holes};
-ghost use Rattle.counts.specs.Answer.{count, counted, refused, after, Countable};
-
-// What a count answers: the number, or what is refused.
-pub enum Count {
-    Is(u16),
-    // The width or the height is not 1 to the greatest.
-    Size,
-    // The length of a lent table or work table is not the stated one.
-    Tables,
-    // The tables are the drawing of no sheet of this size.
-    Drawing,
-    // No region has the name.
-    Name,
-}
-
-impl Count {
-    // The number of the refusal, 0 for done.
-    pub fn number(self) -> u16
-        ensures { λ r. ⌜ r ≡ count self ⌝ }
-    {
-        match self {
-            Count::Is(_) => 0,
-            Count::Size => 1,
-            Count::Tables => 4,
-            Count::Drawing => 5,
-            Count::Name => 8,
-        }
-    }
-}
-
-// Whether a name is the outside's or some region's.
-fn is_known(parent: &[u16], name: u16) -> bool
-    ensures { λ r. ⌜ r ≡ known (now (parent .entry)) name ⌝ }
-{
-    if name == 0 {
-        return true;
-    }
-    entry::get(parent, name) != dart::MARK
-}
-
-// What a count answers where a check of the drawing refuses.
-fn refused(verdict: Verdict) -> Count
-    ensures { λ r. ⌜ r ≡ refused verdict ⌝ }
-{
-    match verdict {
-        Verdict::Size => Count::Size,
-        Verdict::Tables => Count::Tables,
-        Verdict::Drawing => Count::Drawing,
-        Verdict::Done => Count::Name,
-    }
-}
-
-// The depth after a check of the drawing: what the check refuses, or that no region has the name, comes first.
-fn depth_after(verdict: Verdict, parent: &[u16], name: u16) -> Count
-    requires { ⌜ Countable verdict (now parent) ⌝ }
-    ensures { λ r. ⌜ r ≡ after verdict (known (now (parent .entry)) name) (depth (now (parent .entry)) name) ⌝ }
-{
-    let Verdict::Done = verdict else {
-        return refused(verdict);
-    };
-    if !is_known(parent, name) {
-        return Count::Name;
-    }
-    Count::Is(tree::depth(parent, name))
-}
-
-// The hole count after a check of the drawing: what the check refuses, or that no region has the name, comes first.
-fn holes_after(verdict: Verdict, parent: &[u16], name: u16) -> Count
-    requires { ⌜ Countable verdict (now parent) ⌝ }
-    ensures { λ r. ⌜ r ≡ after verdict (known (now (parent .entry)) name) (holes (now (parent .entry)) name) ⌝ }
-{
-    let Verdict::Done = verdict else {
-        return refused(verdict);
-    };
-    if !is_known(parent, name) {
-        return Count::Name;
-    }
-    Count::Is(tree::holes(parent, name))
-}
+ghost use Rattle.counting.specs.Answer.{counted};
 
 // The depth of a region, or of the outside for the name 0: refusals 1, 4, 5 and 8. The tables stay as they are; the work
 // tables are left at 1 and 4, else cleared.
@@ -132,7 +52,7 @@ pub fn depth(
         c,
         d,
     );
-    depth_after(verdict, parent, name)
+    answer::depth_after(verdict, parent, name)
 }
 
 // The hole count of a region, or of the outside for the name 0: refusals 1, 4, 5 and 8. The tables stay as they are; the
@@ -175,7 +95,7 @@ pub fn holes(
         c,
         d,
     );
-    holes_after(verdict, parent, name)
+    answer::holes_after(verdict, parent, name)
 }
 
 // Depth and hole count of every name at once, of the outside and of each name in use; the mark for any other name. The

@@ -7,9 +7,9 @@ use mathlib.Core.List.{List, [], _∷_, _++_}
 use Prim.Native.Nat.{ℕ}
 use borrow.Author.Tests.{ne-eqb}
 use Rattle.paper.specs.Refusal.{Outcome}
-use Rattle.counts.specs.declared.count.Count.{Count}
+use Rattle.counting.specs.declared.answer.Count.{Count}
 use Rattle.drawing.specs.Answer.{left}
-use Rattle.counts.specs.Answer.{count, values, counted}
+use Rattle.counting.specs.Answer.{count, values, counted}
 use Rattle.deck.specs.declared.answer.Read.{Read}
 use Rattle.deck.specs.Outcome.{readOutcome}
 use Rattle.reading.specs.Reading.{reading}

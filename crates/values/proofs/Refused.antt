@@ -6,8 +6,8 @@ use Prim.Native.Nat.{ℕ}
 use native.Mathlib.Omega.{arith}
 use types.Run.{OneOf}
 use denote.Enum.Declared.{tagOf}
-use Rattle.counts.specs.declared.count.Count.{Count}
-use Rattle.counts.proofs.count.Count.{the-type}
+use Rattle.counting.specs.declared.answer.Count.{Count}
+use Rattle.counting.proofs.answer.Count.{the-type}
 use Rattle.values.specs.Put.{countHeld}
 
 pub slot-left : (r : Count) (v : ℕ) → OneOf (1 ∷ 2 ∷ 3 ∷ 4 ∷ []) (tagOf the-type r) → v ≡ countHeld r v

@@ -5,7 +5,7 @@
 --   cardHeld a k    == what the slot of the card, which held k, holds after it
 use mathlib.Core.List.{List, [], _∷_}
 use Prim.Native.Nat.{ℕ}
-use Rattle.counts.specs.declared.count.Count.{Count}
+use Rattle.counting.specs.declared.answer.Count.{Count}
 use Rattle.deck.specs.declared.answer.Read.{Read}
 
 unfoldable pub countHeld : Count → ℕ → ℕ

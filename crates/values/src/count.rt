@@ -1,6 +1,6 @@
-use counts::count::Count;
+use counting::answer::Count;
 ghost use mathlib.Core.Path.{_≡_};
-ghost use Rattle.counts.specs.Answer.{count};
+ghost use Rattle.counting.specs.Answer.{count};
 ghost use Rattle.values.specs.Put.{countHeld};
 
 // Puts a count into a lent slot, which a refusal leaves as it was. Answers the number of the refusal, 0 for done.

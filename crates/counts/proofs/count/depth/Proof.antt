@@ -1,5 +1,5 @@
 use Rattle.paper.specs.Refusal.{deepened}
-use Rattle.counts.proofs.After.{count-told, countable}
+use Rattle.counts.proofs.Told.{count-told, countable}
 use borrow.Author.Needs.{needs}
 use Rattle.counts.proofs.count.depth.Statement.{statement}
 use Rattle.counts.proofs.count.depth.Tie as tie

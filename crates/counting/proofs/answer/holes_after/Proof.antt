@@ -1,9 +1,9 @@
 use mathlib.Core.Path.{sym, _∙_}
 use borrow.Author.Tests.{not-true, not-false}
-use Rattle.counts.proofs.After.{after-refused, after-name, after-is}
+use Rattle.counting.proofs.After.{after-refused, after-name, after-is}
 use borrow.Author.Needs.{needs}
-use Rattle.counts.proofs.count.holes_after.Statement.{statement}
-use Rattle.counts.proofs.count.holes_after.Tie as tie
+use Rattle.counting.proofs.answer.holes_after.Statement.{statement}
+use Rattle.counting.proofs.answer.holes_after.Tie as tie
 
 enum-told : tie.Need-enum-told
 enum-told c = search needs

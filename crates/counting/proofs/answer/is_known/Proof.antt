@@ -1,8 +1,8 @@
 use Rattle.plane.specs.Dart.{mark}
 use Rattle.enclosure.proofs.Climb.{known-outside, known-name}
 use borrow.Author.Needs.{needs}
-use Rattle.counts.proofs.count.is_known.Statement.{statement}
-use Rattle.counts.proofs.count.is_known.Tie as tie
+use Rattle.counting.proofs.answer.is_known.Statement.{statement}
+use Rattle.counting.proofs.answer.is_known.Tie as tie
 
 returns : tie.Need-returns
 returns c = known-outside _ _ (c .if1 .taken)

@@ -1,8 +1,8 @@
 use mathlib.Core.Path.{sym, ap}
-use Rattle.counts.specs.Answer.{refused}
+use Rattle.counting.specs.Answer.{refused}
 use borrow.Author.Needs.{needs}
-use Rattle.counts.proofs.count.refused.Statement.{statement}
-use Rattle.counts.proofs.count.refused.Tie as tie
+use Rattle.counting.proofs.answer.refused.Statement.{statement}
+use Rattle.counting.proofs.answer.refused.Tie as tie
 
 enum-told : tie.Need-enum-told
 enum-told c = search needs

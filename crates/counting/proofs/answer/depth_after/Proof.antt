@@ -1,10 +1,10 @@
 use mathlib.Core.Path.{sym, _∙_}
 use borrow.Author.Tests.{not-true, not-false}
 use Rattle.enclosure.proofs.Climb.{known-in}
-use Rattle.counts.proofs.After.{after-refused, after-name, after-is}
+use Rattle.counting.proofs.After.{after-refused, after-name, after-is}
 use borrow.Author.Needs.{needs}
-use Rattle.counts.proofs.count.depth_after.Statement.{statement}
-use Rattle.counts.proofs.count.depth_after.Tie as tie
+use Rattle.counting.proofs.answer.depth_after.Statement.{statement}
+use Rattle.counting.proofs.answer.depth_after.Tie as tie
 
 enum-told : tie.Need-enum-told
 enum-told c = search needs

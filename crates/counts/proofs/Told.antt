@@ -1,44 +1,22 @@
--- What a count answers after a verdict.
+-- What a count answers after a verdict tells the outcome of the count.
 --   after v k x     == what a count answers after the verdict v, of a name that k says is known, with the value x
 --   Countable v p   == where the verdict v accepts, names may be climbed and counted in the parents p
 use mathlib.Core.Path.{_≡_, refl}
 use mathlib.Core.Bool.{Bool, true, false}
 use mathlib.Core.List.{List, [], _∷_}
-use mathlib.Core.Logic.{⊎-elim, inl, inr}
+use mathlib.Core.Logic.{inl, inr}
 use Prim.Native.Nat.{ℕ}
 use native.Mathlib.Omega.{arith}
-use types.Run.{OneOf}
-use denote.Enum.Declared.{tagOf}
 use Rattle.paper.specs.Drawing.{Tables}
 use Rattle.paper.specs.Refusal.{outcome, five, countRefusal}
 use Rattle.enclosure.specs.Tree.{known}
 use Rattle.verdict.specs.declared.judge.Verdict.{Verdict}
 use Rattle.verdict.specs.Answer.{answered}
 use Rattle.verdict.specs.Check.{checked}
-use Rattle.verdict.proofs.judge.Verdict.{the-type}
-use Rattle.counts.specs.declared.count.Count.{Count}
-use Rattle.counts.specs.Answer.{counted, refused, after, Countable}
+use Rattle.counting.specs.declared.answer.Count.{Count}
+use Rattle.counting.specs.Answer.{counted, refused, after, Countable}
 use Rattle.counts.proofs.Accepted.{accepted-falls, accepted-long, accepted-fits}
 use Rattle.counts.proofs.Counting.{count-refused, count-name, count-is}
-
-module _ (v : Verdict) (k : Bool) (x : ℕ) where
-  pub after-refused : OneOf (1 ∷ 2 ∷ 3 ∷ []) (tagOf the-type v) → refused v ≡ after v k x
-  unfolding refused after
-  after-refused p = by-case v p
-    where
-      by-case : (u : Verdict) → OneOf (1 ∷ 2 ∷ 3 ∷ []) (tagOf the-type u) → refused u ≡ after u k x
-      by-case Verdict.Done q = absurd (⊎-elim (λ z. omega arith) (⊎-elim (λ z. omega arith) (λ z. omega arith)) q)
-      by-case Verdict.Size q = refl
-      by-case Verdict.Tables q = refl
-      by-case Verdict.Drawing q = refl
-
-  pub after-name : v ≡ Verdict.Done → k ≡ false → Count.Name ≡ after v k x
-  unfolding after
-  after-name d e = rw (d, e)
-
-  pub after-is : v ≡ Verdict.Done → k ≡ true → Count.Is x ≡ after v k x
-  unfolding after
-  after-is d e = rw (d, e)
 
 module _ (w h : ℕ) (t : Tables) (r : ℕ) (ws vs : List (List ℕ)) (x : ℕ) where
   told-done : answered Verdict.Done (five t) vs ≡ checked w h t ws → (k : Bool) → known (t .parent) r ≡ k

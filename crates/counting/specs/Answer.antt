@@ -15,7 +15,7 @@ use Rattle.enclosure.specs.Tree.{Falls}
 use Rattle.paper.specs.Refusal.{Outcome}
 use Rattle.drawing.specs.Answer.{left}
 use Rattle.verdict.specs.declared.judge.Verdict.{Verdict}
-use Rattle.counts.specs.declared.count.Count.{Count}
+use Rattle.counting.specs.declared.answer.Count.{Count}
 
 abbrev pub count : Count → ℕ
 count (Count.Is v) = 0
