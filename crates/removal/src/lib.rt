@@ -1,4 +1,4 @@
-// The first two steps of the removal rule, in the tables of a level: darts are taken out, then hanging ends.
+// What the steps of the removal rule need on any links: reversals, the darts at a point, and step 2, hanging ends.
 pub mod back;
 pub mod ends;
 pub mod prune;
