@@ -1,13 +1,15 @@
 -- The cases that the paper marks P, proved about its definitions by one statement over one list.
 --   Claim           == what the definitions compute, and what the paper states
+--   hold cs         == each claim computes what it states: a test, so that antt computes each side once
 --   darts w h s     == how many darts the levels 0, 1, 2 and 3 have
 --   ones t          == the darts that a table of links has, in order
 --   read t ds       == the entries of a table at some places
 --   refusal ..      == the number of joining a with b in the drawing of a sheet
-use mathlib.Core.Path.{_≡_, refl}
-use mathlib.Core.Bool.{Bool, true, false}
+use mathlib.Core.Path.{_≡_, refl, ap₂}
+use mathlib.Core.Bool.{Bool, true, false, _&&_}
 use mathlib.Core.List.{List, [], _∷_, map}
 use Prim.Native.Nat.{ℕ, zero, suc}
+use lib.Dec.{ltb}
 use Rattle.laws.specs.Table.{listed, table, number, count, some}
 use Rattle.laws.specs.Least.{lower, tie, ties, least}
 use Rattle.laws.specs.Run.{run}
@@ -21,10 +23,23 @@ use Rattle.paper.specs.Enclosure.{first, parent, parents, above, depth, 
 use Rattle.paper.specs.Drawing.{Tables, drawn, drawing, fresh, recover, recovered, alike, same, judged}
 use Rattle.paper.specs.Joining.{at, on, between, shared, chase, removed, hanging, prune, pruned, low, high, spliced, smooth, smooths, smoothed, moved, close, closes, closed, joined}
 use Rattle.paper.specs.Refusal.{sized, cleared, outcome, levelRefusal, levelTables, levelled, five, stated, drawRefusal, mapped, used, adjoin, joinRefusal, merged, countRefusal, deepened, holed}
+use Rattle.laws.proofs.Test.{and-left, and-right}
+use Rattle.paper.proofs.Judge.{alike-iff}
 
 record Claim : Type 0 where
   computed : List ℕ
   stated : List ℕ
+
+hold : List Claim → Bool
+hold [] = true
+hold (c ∷ cs) = alike (c .computed) (c .stated) && hold cs
+
+hold-same : (cs : List Claim) → hold cs ≡ true
+    → map (λ (c : Claim). c .computed) cs ≡ map (λ (c : Claim). c .stated) cs
+unfolding hold
+hold-same [] h = refl
+hold-same (c ∷ cs) h =
+    ap₂ _∷_ (alike-iff (c .computed) (c .stated) .0 (and-left _ (hold cs) h)) (hold-same cs (and-right (alike (c .computed) (c .stated)) _ h))
 
 darts : ℕ → ℕ → List ℕ → List ℕ
 darts w h s =
@@ -97,8 +112,8 @@ claims =
     }
     -- P3
     ∷ record { computed = darts 2 1 p3; stated = 14 ∷ 12 ∷ 8 ∷ 2 ∷ [] }
-    -- P4: the darts of level 3 after the join; point 0 has none before it
-    ∷ record { computed = ones 2 1 ((joined 2 1 (drawing 2 1 p2) 1 2) .next3); stated = 0 ∷ 1 ∷ [] }
+    -- P4: level 3 after the join, the darts 0 and 1, each its own next; point 0 has none before it
+    ∷ record { computed = (joined 2 1 (drawing 2 1 p2) 1 2) .next3; stated = marked 2 1 (λ d. ltb d 2) (λ d. d) }
     ∷ record { computed = ones 2 1 ((drawing 2 1 p2) .next3); stated = 4 ∷ 5 ∷ 6 ∷ 16 ∷ 18 ∷ 19 ∷ [] }
     -- P5
     ∷ record { computed = darts 3 3 p5; stated = 48 ∷ 32 ∷ 16 ∷ 4 ∷ [] }
@@ -130,8 +145,8 @@ beside-claims =
     -- and a cell's label may be the mark
     ∷ record { computed = (drawing 2 1 (65535 ∷ 65535 ∷ [])) .next3; stated = (drawing 2 1 p3) .next3 }
     -- the judge accepts a drawing, also after joins, and refuses one in which a single entry differs
-    ∷ record { computed = accepted 3 3 (drawing 3 3 p5); stated = 1 ∷ [] }
-    ∷ record { computed = accepted 3 3 (joined 3 3 (drawing 3 3 p8) 1 2); stated = 1 ∷ [] }
+    ∷ record { computed = accepted 2 2 (drawing 2 2 p7); stated = 1 ∷ [] }
+    ∷ record { computed = accepted 3 1 (joined 3 1 (drawing 3 1 row) 1 2); stated = 1 ∷ [] }
     ∷ record { computed = accepted 2 1 (drawing 2 2 p7); stated = 0 ∷ [] }
     -- depth and hole count of the outside, of a ring and of what the ring encloses
     ∷ record { computed = map (depth ((drawing 3 3 p5) .parent)) (0 ∷ 1 ∷ 5 ∷ []); stated = 0 ∷ 1 ∷ 2 ∷ [] }
@@ -140,13 +155,19 @@ beside-claims =
 
 -- opens every definition that the claims compute with
 opened : Unit {0}
-unfolding row accepted beside-claims darts picked ones read refusal p1 p2 p3 p5 p6 p7 p8 claims label west north names lower tie ties least table listed some count run widest within mark points slots dart point direction beside far turned reversal stays line bits half has corner right left parts present degree inline named cells turn side border mask next plain last along big bent tops anchor kept2 kept3 among level marked first parent parents above depth holes drawn drawing fresh recover recovered alike same judged at on between shared chase removed hanging prune pruned low high spliced smooth smooths smoothed moved close closes closed joined sized cleared outcome levelRefusal levelTables levelled five stated drawRefusal mapped used adjoin joinRefusal merged countRefusal deepened holed
+unfolding hold row accepted beside-claims darts picked ones read refusal p1 p2 p3 p5 p6 p7 p8 claims label west north names lower tie ties least table listed some count run widest within mark points slots dart point direction beside far turned reversal stays line bits half has corner right left parts present degree inline named cells turn side border mask next plain last along big bent tops anchor kept2 kept3 among level marked first parent parents above depth holes drawn drawing fresh recover recovered alike same judged at on between shared chase removed hanging prune pruned low high spliced smooth smooths smoothed moved close closes closed joined sized cleared outcome levelRefusal levelTables levelled five stated drawRefusal mapped used adjoin joinRefusal merged countRefusal deepened holed
 opened = tt
 
-marked-cases : map (λ (c : Claim). c .computed) claims ≡ map (λ (c : Claim). c .stated) claims
+claims-hold : hold claims ≡ true
 unfolding opened
-marked-cases = refl
+claims-hold = refl
+
+beside-hold : hold beside-claims ≡ true
+unfolding opened
+beside-hold = refl
+
+marked-cases : map (λ (c : Claim). c .computed) claims ≡ map (λ (c : Claim). c .stated) claims
+marked-cases = hold-same claims claims-hold
 
 cases-beside : map (λ (c : Claim). c .computed) beside-claims ≡ map (λ (c : Claim). c .stated) beside-claims
-unfolding opened
-cases-beside = refl
+cases-beside = hold-same beside-claims beside-hold
