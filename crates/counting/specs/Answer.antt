@@ -11,7 +11,7 @@ use mathlib.Core.List.{List, [], _∷_}
 use Prim.Native.Nat.{ℕ, _≤_, _<_}
 use lib.ListN.{length}
 use Rattle.plane.specs.Dart.{mark}
-use Rattle.enclosure.specs.Tree.{Falls}
+use Rattle.tree.specs.Tree.{Falls}
 use Rattle.paper.specs.Refusal.{Outcome}
 use Rattle.drawing.specs.Answer.{left}
 use Rattle.verdict.specs.declared.judge.Verdict.{Verdict}

@@ -1,9 +1,8 @@
-use enclosure::tree;
 use plane::dart;
 use table::entry;
 use verdict::judge::Verdict;
 ghost use mathlib.Core.Path.{_≡_};
-ghost use Rattle.enclosure.specs.Tree.{known};
+ghost use Rattle.tree.specs.Tree.{known};
 ghost use Rattle.paper.specs.Enclosure.{depth, holes};
 ghost use Rattle.counting.specs.Answer.{count, refused, after, Countable};
 

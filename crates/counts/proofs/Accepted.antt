@@ -9,11 +9,11 @@ use Rattle.paper.specs.Drawing.{Tables}
 use Rattle.paper.specs.Refusal.{five}
 use Rattle.plane.proofs.Fit.{cells-fit}
 use Rattle.verdict.specs.declared.judge.Verdict.{Verdict}
-use Rattle.enclosure.specs.Tree.{Falls}
+use Rattle.tree.specs.Tree.{Falls}
 use Rattle.verdict.specs.Answer.{answered}
 use Rattle.verdict.specs.Check.{checked}
 use Rattle.drawing.proofs.Stated.{stated-parent}
-use Rattle.enclosure.proofs.Fall.{judged-falls}
+use Rattle.tree.proofs.Fall.{judged-falls}
 use Rattle.verdict.proofs.Refusing.{accepted-done, accepted-within, accepted-stated, accepted-judged}
 
 module _ (w h : ℕ) (t : Tables) (ws vs : List (List ℕ)) (v : Verdict) (d : v ≡ Verdict.Done)

@@ -14,7 +14,8 @@ use Rattle.plane.specs.Size.{within}
 use Rattle.paper.specs.Enclosure.{depth, holes}
 use Rattle.paper.specs.Drawing.{Tables}
 use Rattle.paper.specs.Refusal.{outcome, sized, stated, five, used, countRefusal}
-use Rattle.enclosure.specs.Tree.{known, counts}
+use Rattle.tree.specs.Tree.{known}
+use Rattle.census.specs.Census.{counts}
 use Rattle.drawing.proofs.Stated.{and-end}
 use Rattle.verdict.specs.declared.judge.Verdict.{Verdict}
 use Rattle.verdict.specs.Answer.{answer, answered}

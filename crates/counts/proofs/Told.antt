@@ -9,7 +9,7 @@ use Prim.Native.Nat.{ℕ}
 use native.Mathlib.Omega.{arith}
 use Rattle.paper.specs.Drawing.{Tables}
 use Rattle.paper.specs.Refusal.{outcome, five, countRefusal}
-use Rattle.enclosure.specs.Tree.{known}
+use Rattle.tree.specs.Tree.{known}
 use Rattle.verdict.specs.declared.judge.Verdict.{Verdict}
 use Rattle.verdict.specs.Answer.{answered}
 use Rattle.verdict.specs.Check.{checked}

@@ -7,7 +7,7 @@ use Rattle.plane.specs.Size.{within}
 use Rattle.paper.specs.Enclosure.{depth, holes}
 use Rattle.paper.specs.Drawing.{Tables, judged}
 use Rattle.paper.specs.Refusal.{Outcome, outcome, sized, stated, five}
-use Rattle.enclosure.specs.Tree.{counts}
+use Rattle.census.specs.Census.{counts}
 
 unfoldable pub tallyRefusal : ℕ → ℕ → Tables → List ℕ → List ℕ → List (List ℕ) → ℕ
 tallyRefusal w h t ds hs ws =

@@ -1,6 +1,5 @@
 use counting::answer;
 use counting::answer::Count;
-use enclosure::tree;
 use plane::size;
 use verdict::judge;
 use verdict::judge::Verdict;
@@ -155,6 +154,6 @@ pub fn counts(
     let Verdict::Done = verdict else {
         return verdict;
     };
-    tree::count_all(parent, depths, tally);
+    census::count_all(parent, depths, tally);
     Verdict::Done
 }

@@ -1,4 +1,1 @@
 pub mod Corner
-pub mod Climb
-pub mod Tally
-pub mod Fall

@@ -1,3 +1,2 @@
-// Enclosure: each region's parent, and the depth and holes that the parents tell.
+// Enclosure: each region's parent.
 pub mod parent;
-pub mod tree;

@@ -1,9 +1,17 @@
 ghost use mathlib.Core.Path.{_≡_};
 ghost use mathlib.Core.Bool.{not};
-ghost use Prim.Native.Nat.{_*_, _≤_};
+ghost use Prim.Native.Nat.{_*_, _≤_, _<_};
 ghost use lib.Dec.{eqb};
 ghost use Rattle.laws.specs.Table.{number};
-ghost use Rattle.plane.specs.Point.{right, left, present, degree, inline};
+ghost use Rattle.plane.specs.Point.{corner, right, left, present, degree, inline};
+
+// The cell in a row and a column of the four.
+fn corner(cells: [[u16; 2]; 2], row: usize, column: usize) -> u16
+    requires { ⌜ (row < 2) × (column < 2) ⌝ }
+    ensures { λ r. ⌜ r ≡ corner cells row column ⌝ }
+{
+    cells[row][column]
+}
 
 // A value where two cells differ, else 0.
 fn where_differ(a: u16, b: u16, value: u16) -> u16
@@ -16,10 +24,10 @@ fn where_differ(a: u16, b: u16, value: u16) -> u16
 pub fn present(cells: [[u16; 2]; 2]) -> u16
     ensures { λ r. ⌜ r ≡ present cells ⌝ }
 {
-    let nw = cells[0][0];
-    let ne = cells[0][1];
-    let sw = cells[1][0];
-    let se = cells[1][1];
+    let nw = corner(cells, 0, 0);
+    let ne = corner(cells, 0, 1);
+    let sw = corner(cells, 1, 0);
+    let se = corner(cells, 1, 1);
     let east = where_differ(se, ne, 1);
     let south = where_differ(sw, se, 2);
     let west = where_differ(nw, sw, 4);
@@ -32,7 +40,9 @@ pub fn degree(cells: [[u16; 2]; 2]) -> u16
     ensures { λ r. ⌜ r ≡ degree (present cells) ⌝ }
 {
     let lines = present(cells);
-    lines % 2 + lines / 2 % 2 + lines / 2 / 2 % 2 + lines / 2 / 2 / 2 % 2
+    let half = lines / 2;
+    let quarter = half / 2;
+    lines % 2 + half % 2 + quarter % 2 + quarter / 2 % 2
 }
 
 // The mask of the present lines whose opposite line is present too.
@@ -40,8 +50,10 @@ pub fn in_line(cells: [[u16; 2]; 2]) -> u16
     ensures { λ r. ⌜ r ≡ inline (present cells) ⌝ }
 {
     let lines = present(cells);
-    let along = lines % 2 + lines / 2 / 2 % 2;
-    let down = lines / 2 % 2 + lines / 2 / 2 / 2 % 2;
+    let half = lines / 2;
+    let quarter = half / 2;
+    let along = lines % 2 + quarter % 2;
+    let down = half % 2 + quarter / 2 % 2;
     5 * (along / 2) + 10 * (down / 2)
 }
 
@@ -50,10 +62,10 @@ pub fn right(cells: [[u16; 2]; 2], direction: u16) -> u16
     ensures { λ r. ⌜ r ≡ right cells direction ⌝ }
 {
     match direction {
-        0 => cells[1][1],
-        1 => cells[1][0],
-        2 => cells[0][0],
-        3 => cells[0][1],
+        0 => corner(cells, 1, 1),
+        1 => corner(cells, 1, 0),
+        2 => corner(cells, 0, 0),
+        3 => corner(cells, 0, 1),
         _ => 0,
     }
 }
@@ -63,10 +75,10 @@ pub fn left(cells: [[u16; 2]; 2], direction: u16) -> u16
     ensures { λ r. ⌜ r ≡ left cells direction ⌝ }
 {
     match direction {
-        0 => cells[0][1],
-        1 => cells[1][1],
-        2 => cells[1][0],
-        3 => cells[0][0],
+        0 => corner(cells, 0, 1),
+        1 => corner(cells, 1, 1),
+        2 => corner(cells, 1, 0),
+        3 => corner(cells, 0, 0),
         _ => 0,
     }
 }

@@ -1,6 +1,6 @@
 use mathlib.Core.Path.{sym, _∙_}
 use borrow.Author.Tests.{not-true, not-false}
-use Rattle.enclosure.proofs.Climb.{known-in}
+use Rattle.tree.proofs.Climb.{known-in}
 use Rattle.counting.proofs.After.{after-refused, after-name, after-is}
 use borrow.Author.Needs.{needs}
 use Rattle.counting.proofs.answer.depth_after.Statement.{statement}

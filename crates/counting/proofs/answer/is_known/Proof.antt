@@ -1,5 +1,5 @@
 use Rattle.plane.specs.Dart.{mark}
-use Rattle.enclosure.proofs.Climb.{known-outside, known-name}
+use Rattle.tree.proofs.Climb.{known-outside, known-name}
 use borrow.Author.Needs.{needs}
 use Rattle.counting.proofs.answer.is_known.Statement.{statement}
 use Rattle.counting.proofs.answer.is_known.Tie as tie

@@ -23,7 +23,7 @@ use Rattle.paper.proofs.Marks.{within-fits}
 use Rattle.paper.proofs.Enclosure.{Used, parentage, parents-outside, parents-past, parents-used, parents-below}
 use Rattle.paper.proofs.Enclosure.{parents-named, used-parent}
 use Rattle.paper.proofs.Judge.{judged-drawn}
-use Rattle.enclosure.specs.Tree.{known, Falls}
+use Rattle.tree.specs.Tree.{known, Falls}
 
 -- an entry that is on is not the mark
 on-entry : (t : List ℕ) (r : ℕ) → on t r ≡ true → at t r ≢ mark

@@ -1,10 +1,8 @@
--- A table of parents, by name.
---   known t r       == r is the outside or a name in use
---   Falls t         == the parent of each name in use is a smaller name, and is the outside or in use too
+-- The counts of all names.
 --   counted f t r   == f t r where r is the outside or a name in use, else the mark
 --   counts f t      == the table of these, by name
 use mathlib.Core.Path.{_≡_}
-use mathlib.Core.Bool.{Bool, true, cond, _||_}
+use mathlib.Core.Bool.{cond}
 use mathlib.Core.List.{List}
 use Prim.Native.Nat.{ℕ, _≤_, _<_}
 use lib.Dec.{eqb}
@@ -12,14 +10,8 @@ use lib.ListN.{length, getD}
 use Rattle.laws.specs.Table.{table, count}
 use Rattle.plane.specs.Dart.{mark}
 use Rattle.paper.specs.Enclosure.{depth}
-use Rattle.paper.specs.Joining.{at, on}
-
-unfoldable pub known : List ℕ → ℕ → Bool
-known t r = eqb r 0 || on t r
-
-pub record Falls (t : List ℕ) : Type 0 where
-  pub down : (r : ℕ) → on t r ≡ true → at t r < r
-  pub held : (r : ℕ) → on t r ≡ true → known t (at t r) ≡ true
+use Rattle.paper.specs.Joining.{at}
+use Rattle.tree.specs.Tree.{known, Falls}
 
 unfoldable pub counted : (List ℕ → ℕ → ℕ) → List ℕ → ℕ → ℕ
 counted f t r = cond (known t r) (f t r) mark

@@ -17,7 +17,7 @@ use Rattle.laws.proofs.Test.{or-either, clash}
 use Rattle.plane.specs.Dart.{mark}
 use Rattle.paper.specs.Joining.{at, on}
 use Rattle.paper.specs.Enclosure.{above, depth}
-use Rattle.enclosure.specs.Tree.{known, Falls, counted, Deepened}
+use Rattle.tree.specs.Tree.{known, Falls}
 use Rattle.table.proofs.Entries.{at-in, at-out}
 
 -- no more steps than are allowed
@@ -26,10 +26,6 @@ unfolding above
 above-le t zero r = zero-le
 above-le t (suc n) zero = zero-le
 above-le t (suc n) (suc r) = let l = above-le t n (getD t (suc r) mark) in omega arith
-
-or-true : (b : Bool) → (b || true) ≡ true
-or-true true = refl
-or-true false = refl
 
 module _ (t : List ℕ) where
   pub depth-le : (r : ℕ) → depth t r ≤ r
@@ -110,36 +106,3 @@ module _ (t : List ℕ) where
           go : Dec (r ≡ 0) → 0 ≡ depth t r
           go (yes e) = rw e (sym depth-outside)
           go (no n) = absurd (omega (arith, f .down r (known-on r k n), at-in t r b))
-
-  -- The depths of the names below r, on the way to those of all names.
-  module _ (r : ℕ) (l : List ℕ) (d : Deepened t r l) where
-    pub deepened-outside : r ≡ 0 → 0 ≡ counted depth t r
-    unfolding counted known depth above
-    deepened-outside e = rw e
-
-    pub deepened-mark : r ≢ 0 → getD t r 0 ≡ mark → mark ≡ counted depth t r
-    unfolding counted known on
-    deepened-mark n e = rw (ne-eqb r 0 n, ← at-in t r (d .below), eq-eqb (getD t r 0) mark e)
-
-    module _ (n : r ≢ 0) (m : getD t r 0 ≢ mark) where
-      in-use : on t r ≡ true
-      unfolding on
-      in-use = rw (← at-in t r (d .below), ne-eqb (getD t r 0) mark m)
-
-      pub deepened-below : getD t r 0 < r
-      deepened-below = rw (at-in t r (d .below)) (d .falls .down r in-use)
-
-      above-entry : getD l (getD t r 0) 0 ≡ depth t (getD t r 0)
-      unfolding counted
-      above-entry =
-          d .entry (getD t r 0) deepened-below
-          ∙ rw (at-in t r (d .below), d .falls .held r in-use)
-
-      pub deepened-fits : getD l (getD t r 0) 0 + 1 < 65536
-      unfolding mark
-      deepened-fits = omega (arith, above-entry, depth-le (getD t r 0), deepened-below, d .below, d .fits)
-
-      pub deepened-up : getD l (getD t r 0) 0 + 1 ≡ counted depth t r
-      unfolding counted known
-      deepened-up =
-          rw (in-use, or-true (eqb r 0), above-entry, at-in t r (d .below)) (sym (depth-up (d .falls) r in-use))

@@ -4,10 +4,10 @@ use native.Mathlib.Omega.{arith}
 use lib.ListN.{length}
 use Rattle.plane.specs.Dart.{mark}
 use Rattle.paper.specs.Enclosure.{depth}
-use Rattle.enclosure.specs.Tree.{counted, counts}
+use Rattle.census.specs.Census.{counted, counts}
 use Rattle.table.proofs.Filled.{Filled, filled-none, filled-more, filled-all}
-use Rattle.enclosure.proofs.tree.all_depths.Statement.{statement}
-use Rattle.enclosure.proofs.tree.all_depths.Tie as tie
+use Rattle.census.proofs.all_depths.Statement.{statement}
+use Rattle.census.proofs.all_depths.Tie as tie
 
 abbrev Inv-loop : tie.InvT-loop
 Inv-loop parent depths₀ n i₀ depths i = Filled (length parent) (counted depth parent) i depths₀ depths

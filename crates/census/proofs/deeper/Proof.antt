@@ -1,9 +1,9 @@
 use native.Mathlib.Omega.{arith}
 use Rattle.plane.specs.Dart.{mark}
-use Rattle.enclosure.proofs.Climb.{deepened-outside, deepened-mark, deepened-below, deepened-fits, deepened-up}
+use Rattle.census.proofs.Deepening.{deepened-outside, deepened-mark, deepened-below, deepened-fits, deepened-up}
 use borrow.Author.Needs.{needs}
-use Rattle.enclosure.proofs.tree.deeper.Statement.{statement}
-use Rattle.enclosure.proofs.tree.deeper.Tie as tie
+use Rattle.census.proofs.deeper.Statement.{statement}
+use Rattle.census.proofs.deeper.Tie as tie
 
 returns : tie.Need-returns
 returns c = deepened-outside _ _ _ (c .before .pre) (c .if1 .taken)

@@ -4,9 +4,9 @@ use native.Mathlib.Omega.{arith}
 use lib.ListN.{length}
 use Rattle.laws.specs.Table.{count}
 use Rattle.plane.specs.Dart.{mark}
-use Rattle.enclosure.proofs.Tally.{count-le, childOf, holes-none, holes-all, holes-child, holes-other}
-use Rattle.enclosure.proofs.tree.holes.Statement.{statement}
-use Rattle.enclosure.proofs.tree.holes.Tie as tie
+use Rattle.tree.proofs.Children.{count-le, childOf, holes-none, holes-all, holes-child, holes-other}
+use Rattle.tree.proofs.holes.Statement.{statement}
+use Rattle.tree.proofs.holes.Tie as tie
 
 abbrev Inv-loop : tie.InvT-loop
 Inv-loop parent name n count₀ i₀ count i = (count ≡ Rattle.laws.specs.Table.count i (childOf parent name)) × (i ≤ n)

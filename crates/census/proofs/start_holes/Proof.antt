@@ -4,11 +4,11 @@ use native.Mathlib.Omega.{arith}
 use borrow.Author.Needs.{needs}
 use lib.ListN.{length}
 use Rattle.plane.specs.Dart.{mark}
-use Rattle.enclosure.specs.Tree.{started}
+use Rattle.census.specs.Census.{started}
 use Rattle.table.proofs.Filled.{Filled, filled-none, filled-more, filled-all}
-use Rattle.enclosure.proofs.Tally.{tallied-none}
-use Rattle.enclosure.proofs.tree.start_holes.Statement.{statement}
-use Rattle.enclosure.proofs.tree.start_holes.Tie as tie
+use Rattle.census.proofs.Tally.{tallied-none}
+use Rattle.census.proofs.start_holes.Statement.{statement}
+use Rattle.census.proofs.start_holes.Tie as tie
 
 abbrev Inv-loop : tie.InvT-loop
 Inv-loop parent tally₀ n i₀ tally i = Filled (length parent) (started parent) i tally₀ tally

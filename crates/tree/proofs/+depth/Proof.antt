@@ -1,14 +1,14 @@
 use Prim.Native.Nat.{ℕ, _+_, _<_, zero-le}
 use mathlib.Core.Path.{_∙_, ap}
 use native.Mathlib.Omega.{arith}
-use Rattle.enclosure.proofs.Climb.{climb-known, climb-up, climb-ends}
+use Rattle.tree.proofs.Climb.{climb-known, climb-up, climb-ends}
 use borrow.Fn.Kinds.{In}
 use borrow.Fn.PlainCycle.{Measures, is, falls, and}
-use Rattle.enclosure.proofs.tree.depth.Reads as depth
-use Rattle.enclosure.proofs.tree.depth.Kinds as depth-kinds
-use Rattle.enclosure.proofs.tree.+depth.Lts-depth as depth-lts
-use Rattle.enclosure.proofs.tree.+depth.{statement}
-use Rattle.enclosure.proofs.tree.+depth.Tie.{close}
+use Rattle.tree.proofs.depth.Reads as depth
+use Rattle.tree.proofs.depth.Kinds as depth-kinds
+use Rattle.tree.proofs.+depth.Lts-depth as depth-lts
+use Rattle.tree.proofs.+depth.{statement}
+use Rattle.tree.proofs.+depth.Tie.{close}
 
 abbrev μ-depth : Measures 1 depth-kinds.ps ℕ
 μ-depth κs a = a .1 .0

@@ -2,10 +2,10 @@ use mathlib.Core.Path.{sym, _∙_}
 use Prim.Native.Nat.{_-_, _≤_}
 use native.Mathlib.Omega.{arith}
 use Rattle.plane.specs.Dart.{mark}
-use Rattle.enclosure.specs.Tree.{Tallied}
-use Rattle.enclosure.proofs.Tally.{parent-below, tallied-all, tallied-skip, tallied-fits, tallied-child}
-use Rattle.enclosure.proofs.tree.add_holes.Statement.{statement}
-use Rattle.enclosure.proofs.tree.add_holes.Tie as tie
+use Rattle.census.specs.Census.{Tallied}
+use Rattle.census.proofs.Tally.{parent-below, tallied-all, tallied-skip, tallied-fits, tallied-child}
+use Rattle.census.proofs.add_holes.Statement.{statement}
+use Rattle.census.proofs.add_holes.Tie as tie
 
 abbrev Inv-loop : tie.InvT-loop
 Inv-loop parent tally₀ n i₀ tally i = Tallied parent i tally × (i ≤ n)

@@ -1,8 +1,8 @@
 use Rattle.plane.specs.Dart.{mark}
-use Rattle.enclosure.proofs.Tally.{started-outside, started-mark, started-name}
+use Rattle.census.proofs.Tally.{started-outside, started-mark, started-name}
 use borrow.Author.Needs.{needs}
-use Rattle.enclosure.proofs.tree.unfilled.Statement.{statement}
-use Rattle.enclosure.proofs.tree.unfilled.Tie as tie
+use Rattle.census.proofs.unfilled.Statement.{statement}
+use Rattle.census.proofs.unfilled.Tie as tie
 
 returns : tie.Need-returns
 returns c = started-outside _ _ (c .if1 .taken)

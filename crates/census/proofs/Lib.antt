@@ -1,0 +1,2 @@
+mod Deepening
+mod Tally

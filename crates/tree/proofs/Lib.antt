@@ -1,0 +1,3 @@
+pub mod Climb
+pub mod Children
+pub mod Fall
