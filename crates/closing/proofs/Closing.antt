@@ -15,7 +15,7 @@ use Rattle.plane.specs.Point.{degree}
 use Rattle.paper.specs.Level.{mask}
 use Rattle.paper.specs.Joining.{Links, at, on, low, high, moved, close, closes}
 use Rattle.removal.specs.Links.{links}
-use Rattle.removal.specs.Seen.{SeenAt}
+use Rattle.ends.specs.Seen.{SeenAt}
 use Rattle.enclosure.specs.Tops.{Rising}
 
 -- the two stores into each table

@@ -14,7 +14,7 @@ use Rattle.plane.specs.Point.{degree}
 use Rattle.paper.specs.Level.{mask}
 use Rattle.paper.specs.Joining.{Links, at, on, low, high, spliced, smooth, smooths}
 use Rattle.removal.specs.Links.{links, splice}
-use Rattle.removal.specs.Seen.{SeenAt}
+use Rattle.ends.specs.Seen.{SeenAt}
 
 -- two tables, each with its equation
 pub links-path : (l : Links) (n o : List ℕ) → n ≡ l .next → o ≡ l .other → links n o ≡ l

@@ -6,7 +6,7 @@ use lines::line;
 use masks::mask;
 use plane::size;
 use region::names;
-use region::points;
+use pieces::points;
 use table::entry;
 ghost use mathlib.Core.Path.{_≡_};
 ghost use mathlib.Core.Bool.{true};

@@ -26,7 +26,7 @@ fn hangs(width: u16, height: u16, first: u16, list: &[u16], next: &[u16]) -> boo
     let n = list.len() as u16;
     let mut dart = first;
     while dart < n {
-        if prune::lone(&kinds, next, dart / 4) {
+        if ends::lone(&kinds, next, dart / 4) {
             return true;
         }
         dart = list[dart as usize];

@@ -4,7 +4,7 @@ use dropping::drop;
 use dropping::list;
 use enclosure::parent;
 use lowering::side;
-use region::points;
+use pieces::points;
 use table::entry;
 ghost use mathlib.Core.Path.{_≡_};
 ghost use mathlib.Core.Bool.{true};

@@ -2,7 +2,7 @@ use curves::link;
 use keeping::keep;
 use lines::line;
 use masks::mask;
-use region::points;
+use pieces::points;
 ghost use mathlib.Core.Path.{_≡_};
 ghost use mathlib.Core.Bool.{true};
 ghost use mathlib.Core.List.{[], _∷_};

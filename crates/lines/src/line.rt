@@ -1,5 +1,6 @@
 use masks::mask;
 use plane::dart;
+use round::point;
 use rules::turn;
 use table::entry;
 ghost use mathlib.Core.Path.{_≡_};
@@ -85,14 +86,16 @@ fn next_at(width: u16, turns: &[u16; 64], masks: &[u16], next: &mut [u16], p: u1
     ensures { λ _. ⌜ now (next .exit) ≡ pointed (now (masks .entry)) (onward width (now (masks .entry))) p (now (next .entry)) ⌝ }
 {
     let lines = masks[p as usize];
+    let half = lines / 2;
+    let quarter = half / 2;
     let far = beside(width, p);
     let east = follow(turns, masks, lines % 2, far.east, dart::Dart::EAST);
-    let south = follow(turns, masks, lines / 2 % 2, far.south, dart::Dart::SOUTH);
-    let west = follow(turns, masks, lines / 2 / 2 % 2, far.west, dart::Dart::WEST);
+    let south = follow(turns, masks, half % 2, far.south, dart::Dart::SOUTH);
+    let west = follow(turns, masks, quarter % 2, far.west, dart::Dart::WEST);
     let north = follow(
         turns,
         masks,
-        lines / 2 / 2 / 2 % 2,
+        quarter / 2 % 2,
         far.north,
         dart::Dart::NORTH,
     );
@@ -125,11 +128,13 @@ fn other_at(width: u16, masks: &[u16], other: &mut [u16], p: u16)
     ensures { λ _. ⌜ now (other .exit) ≡ pointed (now (masks .entry)) (reversal width) p (now (other .entry)) ⌝ }
 {
     let lines = masks[p as usize];
+    let half = lines / 2;
+    let quarter = half / 2;
     let far = beside(width, p);
     let east = where_present(lines % 2, 4 * far.east + dart::Dart::WEST);
-    let south = where_present(lines / 2 % 2, 4 * far.south + dart::Dart::NORTH);
-    let west = where_present(lines / 2 / 2 % 2, 4 * far.west + dart::Dart::EAST);
-    let north = where_present(lines / 2 / 2 / 2 % 2, 4 * far.north + dart::Dart::SOUTH);
+    let south = where_present(half % 2, 4 * far.south + dart::Dart::NORTH);
+    let west = where_present(quarter % 2, 4 * far.west + dart::Dart::EAST);
+    let north = where_present(quarter / 2 % 2, 4 * far.north + dart::Dart::SOUTH);
     put_four(other, p, east, south, west, north);
 }
 
@@ -157,11 +162,13 @@ fn side_at(width: u16, framed: &[u16], masks: &[u16], side: &mut [u16], p: u16)
     ensures { λ _. ⌜ now (side .exit) ≡ pointed (now (masks .entry)) (beheld width (now (framed .entry))) p (now (side .entry)) ⌝ }
 {
     let lines = masks[p as usize];
+    let half = lines / 2;
+    let quarter = half / 2;
     let cells = mask::around(width, framed, p);
-    let east = where_present(lines % 2, cells[1][1]);
-    let south = where_present(lines / 2 % 2, cells[1][0]);
-    let west = where_present(lines / 2 / 2 % 2, cells[0][0]);
-    let north = where_present(lines / 2 / 2 / 2 % 2, cells[0][1]);
+    let east = where_present(lines % 2, point::right(cells, dart::Dart::EAST));
+    let south = where_present(half % 2, point::right(cells, dart::Dart::SOUTH));
+    let west = where_present(quarter % 2, point::right(cells, dart::Dart::WEST));
+    let north = where_present(quarter / 2 % 2, point::right(cells, dart::Dart::NORTH));
     put_four(side, p, east, south, west, north);
 }
 

@@ -1,4 +1,3 @@
 pub mod Pruning
 pub mod Reversals
-pub mod Seeing
 pub mod Taking

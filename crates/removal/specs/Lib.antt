@@ -1,3 +1,2 @@
 pub mod Links
-pub mod Seen
 pub mod Taken

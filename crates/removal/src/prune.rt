@@ -1,4 +1,3 @@
-use crate::ends;
 use crate::remove;
 use plane::dart;
 use rules::turn;
@@ -7,26 +6,14 @@ ghost use mathlib.Core.Path.{_≡_};
 ghost use mathlib.Core.Bool.{true};
 ghost use mathlib.Core.List.{List};
 ghost use Prim.Native.Nat.{ℕ, _+_, _<_, _≤_};
-ghost use lib.Dec.{eqb};
 ghost use lib.ListN.{length};
 ghost use Rattle.laws.specs.Table.{some, number};
 ghost use Rattle.plane.specs.Size.{within};
-ghost use Rattle.plane.specs.Dart.{mark, slots, dart};
-ghost use Rattle.plane.specs.Point.{degree};
+ghost use Rattle.plane.specs.Dart.{mark, slots};
 ghost use Rattle.rules.specs.Turn.{kinding};
-ghost use Rattle.paper.specs.Level.{mask};
-ghost use Rattle.paper.specs.Joining.{on, hanging, prune, pruned};
+ghost use Rattle.paper.specs.Joining.{hanging, prune, pruned};
 ghost use Rattle.removal.specs.Links.{links};
 ghost use Rattle.removal.specs.Taken.{flags, loose};
-
-// Whether one dart alone leaves a point: the point table, with no line taken, says that this cannot be.
-pub fn lone(kinds: &[u16; 16], next: &[u16], point: u16) -> bool
-    requires { ⌜ (now kinds ≡ kinding) × (dart point 3 < mark) ⌝ }
-    ensures { λ r. ⌜ r ≡ eqb (degree (mask (on (now (next .entry))) point)) 1 ⌝ }
-{
-    let lines = ends::mask(next, point);
-    kinds[lines as usize] == turn::IMPOSSIBLE
-}
 
 // Whether some dart hangs: some point is left by one dart alone.
 fn hangs(width: u16, height: u16, next: &[u16]) -> bool
@@ -39,7 +26,7 @@ fn hangs(width: u16, height: u16, next: &[u16]) -> bool
     let n = (width + 1) * (height + 1);
     let mut p: u16 = 0;
     while p < n {
-        if lone(&kinds, next, p) {
+        if ends::lone(&kinds, next, p) {
             return true;
         }
         p += 1;
@@ -55,7 +42,7 @@ fn is_hanging(kinds: &[u16; 16], next: &[u16], dart: u16) -> bool
     if entry::get(next, dart) == dart::MARK {
         return false;
     }
-    lone(kinds, next, dart / 4)
+    ends::lone(kinds, next, dart / 4)
 }
 
 // 1 for a dart that hangs or whose other hangs, else 0.

@@ -1,0 +1,64 @@
+-- What is seen at a point.
+--   at t d, on t d  == the entry of dart d, the mark past the end; that it is not the mark
+--   SeenAt m p b u v == of the lines m at point p: b, they are two; u and v, the darts of the first and of the last
+use mathlib.Core.Path.{_≡_, sym, _∙_, ap}
+use mathlib.Core.Bool.{Bool, true}
+use mathlib.Core.List.{List}
+use Prim.Native.Nat.{ℕ, _+_, _*_, _≤_, _<_, zero-le}
+use native.Mathlib.Nat.{add-zero, one-mul, mul-zero, mul-one, le-refl}
+use lib.Dec.{eqb}
+use lib.ListN.{getD}
+use borrow.Author.Tests.{eq-eqb, ne-eqb}
+use Rattle.laws.specs.Table.{number}
+use Rattle.plane.specs.Dart.{mark, dart}
+use Rattle.plane.specs.Point.{bits, degree}
+use Rattle.rules.specs.Turn.{kinding}
+use Rattle.rules.proofs.Kind.{kind-alone, kind-two}
+use Rattle.paper.specs.Level.{mask}
+use Rattle.paper.specs.Joining.{at, on, low, high}
+use Rattle.paper.proofs.Next.{mask-below}
+use Rattle.table.proofs.Entries.{on-mark, on-entry}
+use Rattle.ends.specs.Seen.{SeenAt}
+
+module _ (t : List ℕ) (d : ℕ) where
+  -- a value where there is an entry, else 0
+  pub where-off : (v r : ℕ) → r ≡ at t d → r ≡ mark → (0 ≡ v * number (on t d)) × (0 ≤ v)
+  where-off v r e m = (rw (on-mark t d (sym e ∙ m), mul-zero), zero-le)
+
+  pub where-on : (v r : ℕ) → r ≡ at t d → (r ≡ mark → ⊥) → (v ≡ v * number (on t d)) × (v ≤ v)
+  where-on v r e n = (rw (on-entry t d (λ m. n (e ∙ m)), mul-one), le-refl v)
+
+-- The mask of a point, line by line.
+pub mask-sum : (t : List ℕ) (p a b c d : ℕ) → a ≡ 1 * number (on t (4 * p)) → b ≡ 2 * number (on t (4 * p + 1))
+    → c ≡ 4 * number (on t (4 * p + 2)) → d ≡ 8 * number (on t (4 * p + 3))
+    → (a + b + c + d ≡ mask (on t) p) × (a + b + c + d < 16)
+unfolding mask bits dart
+mask-sum t p a b c d e f g h = let s = sum in (s, rw s (mask-below (on t) p))
+  where
+    sum : a + b + c + d ≡ mask (on t) p
+    sum = rw (add-zero, e, f, g, h, one-mul)
+
+-- what the point table says of a mask where no line is taken
+module _ (ks : List ℕ) (m k : ℕ) (b : m < 16) (q : ks ≡ kinding) (e : k ≡ getD ks m 0) where
+  said : k ≡ getD kinding m 0
+  said = e ∙ ap (λ t. getD t m 0) q
+
+  pub lone-kind : eqb k 4 ≡ eqb (degree m) 1
+  lone-kind = kind-alone m k b said
+
+  pub two-in-line : k ≡ 1 → true ≡ eqb (degree m) 2
+  two-in-line f = rw (eq-eqb k 1 f) at (kind-two m k b said)
+
+  pub two-corner : (k ≡ 1 → ⊥) → eqb k 2 ≡ eqb (degree m) 2
+  two-corner n = rw (ne-eqb k 1 n) at (kind-two m k b said)
+
+-- what is seen, from the mask
+pub seen-of : (m p : ℕ) (b : Bool) (i j n : ℕ) → n ≡ m → b ≡ eqb (degree n) 2 → i ≡ low n → j ≡ high n
+    → SeenAt m p b (4 * p + i) (4 * p + j)
+unfolding dart
+seen-of m p b i j n e d f g =
+    record {
+      two = d ∙ ap (λ k. eqb (degree k) 2) e;
+      first = ap (dart p) (f ∙ ap low e);
+      last = ap (dart p) (g ∙ ap high e);
+    }
