@@ -20,8 +20,9 @@ use Rattle.columns.proofs.Sizes.{held-measured, held-most, sum, sum-all}
 use Rattle.columns.proofs.Table.{getD-past}
 use Rattle.cards.specs.Fault.{row}
 use Rattle.cards.proofs.Frames.{frame-none, row-frame}
-use Rattle.reading.specs.Reading.{room, rows, cells, filled}
-use Rattle.reading.proofs.Answers.{rows-next, row-whole}
+use Rattle.judging.specs.Judging.{rows}
+use Rattle.judging.proofs.Answers.{rows-next, row-whole}
+use Rattle.reading.specs.Reading.{room, cells, filled}
 
 -- Cards of a sheet of width w and height h, k the number of the first.
 module _ (w h : ℕ) (size : within w h ≡ true) where

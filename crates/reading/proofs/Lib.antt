@@ -1,3 +1,3 @@
-pub mod Answers
 pub mod Filling
 pub mod One
+mod Outcomes

@@ -30,9 +30,10 @@ use Rattle.cards.proofs.Rows.{card-whole, card-cells, card-row, row-card}
 use Rattle.cards.proofs.Rows.{heading-width, heading-height, heading-header, header-card}
 use Rattle.writing.specs.Writing.{rowDeck, deckOf, deckLength, written as answered, bytesAfter, writing}
 use Rattle.writing.proofs.Punching.{writing-done}
-use Rattle.reading.specs.Reading.{room, rows, judged, cells, filled, reading}
-use Rattle.reading.proofs.Answers.{stopped-none, rows-done, rows-next, Deck, judged-sheet}
-use Rattle.reading.proofs.Answers.{judged-go, judged-refused, reading-table, reading-refused, reading-sheet}
+use Rattle.judging.specs.Judging.{rows, judged}
+use Rattle.judging.proofs.Answers.{stopped-none, rows-done, rows-next, Deck, judged-sheet, judged-go, judged-refused}
+use Rattle.reading.specs.Reading.{room, cells, filled, reading}
+use Rattle.reading.proofs.Outcomes.{reading-table, reading-refused, reading-sheet}
 use Rattle.reading.proofs.Filling.{part-is, length-part, length-cells}
 
 pub record Sound (w h : ℕ) (s : List ℕ) : Type 0 where

@@ -1,3 +1,2 @@
-// Reading a deck: the cards judged one by one, and the cells of a sheet copied into a table. One sheet has one deck.
-mod judge;
+// Reading a deck: once it is judged, the cells of its sheet are copied into a table. One sheet has one deck.
 pub mod read;

@@ -1,8 +1,8 @@
-use crate::judge;
 use columns::layout;
 use deck::answer::Read;
 use deck::card;
 use deck::card::LONG;
+use judging::judge;
 ghost use mathlib.Core.Path.{_≡_};
 ghost use mathlib.Core.List.{_++_};
 ghost use Prim.Native.Nat.{_+_, _-_, _≤_};
@@ -11,7 +11,8 @@ ghost use lib.Seq.{paste};
 ghost use Rattle.deck.specs.Card.{long};
 ghost use Rattle.deck.specs.Outcome.{readOutcome};
 ghost use Rattle.columns.specs.Layout.{rowCards};
-ghost use Rattle.reading.specs.Reading.{room, judged, cells, filled, reading};
+ghost use Rattle.judging.specs.Judging.{judged};
+ghost use Rattle.reading.specs.Reading.{room, cells, filled, reading};
 
 // The length of the reader's cell table.
 pub const CELLS: usize = 5184;

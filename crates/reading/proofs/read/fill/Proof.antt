@@ -8,7 +8,7 @@ use Rattle.columns.specs.Layout.{rowCards, held}
 use Rattle.columns.proofs.Sizes.{cards-few}
 use Rattle.columns.proofs.Table.{rest-all}
 use Rattle.reading.specs.Reading.{cells}
-use Rattle.reading.proofs.Answers.{Deck, judged-sheet, header-whole}
+use Rattle.judging.proofs.Answers.{Deck, judged-sheet, header-whole}
 use Rattle.reading.proofs.Filling.{Filling, filling-none, filling-room, filling-whole}
 use Rattle.reading.proofs.Filling.{filling-turn, filling-within, filling-end}
 use Rattle.reading.proofs.read.fill.Statement.{statement}

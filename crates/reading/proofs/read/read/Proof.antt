@@ -1,7 +1,7 @@
 use mathlib.Core.Path.{sym, _∙_}
 use borrow.Author.Needs.{needs}
 use Rattle.reading.specs.Reading.{room}
-use Rattle.reading.proofs.Answers.{reading-table, reading-refused, reading-sheet}
+use Rattle.reading.proofs.Outcomes.{reading-table, reading-refused, reading-sheet}
 use Rattle.reading.proofs.read.read.Statement.{statement}
 use Rattle.reading.proofs.read.read.Tie as tie
 

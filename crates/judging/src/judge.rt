@@ -9,10 +9,10 @@ ghost use lib.ListN.{take};
 ghost use Rattle.plane.specs.Size.{within};
 ghost use Rattle.deck.specs.Card.{long};
 ghost use Rattle.columns.specs.Layout.{rowCards};
-ghost use Rattle.reading.specs.Reading.{rows, judged};
+ghost use Rattle.judging.specs.Judging.{rows, judged};
 
 // The first card of the bytes that are left: the next 81 of them, or all.
-pub(crate) fn next(rest: &[u8]) -> &[u8]
+pub fn next(rest: &[u8]) -> &[u8]
     ensures { λ r. ⌜ now r ≡ take long (now (rest .entry)) ⌝ }
 {
     if rest.len() < LONG {
@@ -51,7 +51,7 @@ fn rows(deck: &[u8], width: u16, height: u16) -> Read
 }
 
 // The answer to the bytes of a deck: the size of its sheet, or the first refusal, card by card.
-pub(crate) fn judged(deck: &[u8]) -> Read
+pub fn judged(deck: &[u8]) -> Read
     ensures { λ r. ⌜ r ≡ judged (now (deck .entry)) ⌝ }
 {
     let card = next(deck);

@@ -4,8 +4,8 @@ use lib.ListN.{length}
 use native.Mathlib.Omega.{arith}
 use lib.Seq.{take-all, length-take-le}
 use Rattle.deck.specs.Card.{columns, places, long}
-use Rattle.reading.proofs.judge.next.Statement.{statement}
-use Rattle.reading.proofs.judge.next.Tie as tie
+use Rattle.judging.proofs.judge.next.Statement.{statement}
+use Rattle.judging.proofs.judge.next.Tie as tie
 
 returns : tie.Need-returns
 unfolding columns places long

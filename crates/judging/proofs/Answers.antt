@@ -13,12 +13,11 @@ use Rattle.plane.specs.Size.{within}
 use Rattle.deck.specs.declared.answer.Read.{Read}
 use Rattle.deck.specs.declared.answer.Read.the-variants.{Sheet, Refused}
 use Rattle.deck.specs.Card.{long, whole}
-use Rattle.deck.specs.Outcome.{readOutcome}
 use Rattle.deck.proofs.Parts.{whole-is}
 use Rattle.columns.specs.Layout.{rowCards, held}
 use Rattle.cards.specs.Fault.{width, height, header, row}
 use Rattle.cards.proofs.Frames.{frame-none, header-frame, header-within, row-frame}
-use Rattle.reading.specs.Reading.{room, stopped, rows, judged, cells, filled, tableAfter, reading}
+use Rattle.judging.specs.Judging.{stopped, rows, judged}
 
 -- A refusal stops the reading; none lets it go on.
 pub stopped-some : (m k : ℕ) (r : Read) → (m ≡ 0 → ⊥) → Refused m k ≡ stopped m k r
@@ -156,21 +155,3 @@ judged-refused d n k e q =
     let w = width c in
     let h = height c in
     stopped-refused (header c) 1 n k _ (rows-refused w h (rowCards w h) 2 n k (drop long d)) e q
-
--- The outcome of reading the bytes d into a table t.
-module _ (d t : List ℕ) where
-  -- a table of another length
-  pub reading-table : (length t ≡ room → ⊥) → readOutcome (Refused 26 0) t ≡ reading d t
-  unfolding reading
-  reading-table n = rw (ne-eqb _ _ n)
-
-  -- bytes that are refused
-  pub reading-refused : (n k : ℕ) → length t ≡ room → judged d ≡ Refused n k → readOutcome (judged d) t ≡ reading d t
-  unfolding reading tableAfter
-  reading-refused n k q e = rw (eq-eqb _ _ q, e)
-
-  -- bytes that are the deck of a sheet
-  pub reading-sheet : (w h : ℕ) → length t ≡ room → judged d ≡ Sheet w h
-      → readOutcome (Sheet w h) (filled (cells w (rowCards w h) 2 (drop long d))) ≡ reading d t
-  unfolding reading tableAfter
-  reading-sheet w h q e = rw (eq-eqb _ _ q, e)

@@ -5,9 +5,9 @@ use Rattle.deck.specs.Card.{columns, places, long}
 use Rattle.columns.proofs.Table.{rest-all}
 use Rattle.cards.specs.Fault.{header}
 use Rattle.cards.proofs.Frames.{header-within}
-use Rattle.reading.proofs.Answers.{judged-stop, judged-go, header-whole}
-use Rattle.reading.proofs.judge.judged.Statement.{statement}
-use Rattle.reading.proofs.judge.judged.Tie as tie
+use Rattle.judging.proofs.Answers.{judged-stop, judged-go, header-whole}
+use Rattle.judging.proofs.judge.judged.Statement.{statement}
+use Rattle.judging.proofs.judge.judged.Tie as tie
 
 next-requires : tie.Need-next-requires
 next-requires c κs = search needs

@@ -8,10 +8,10 @@ use Rattle.columns.specs.Layout.{rowCards, held}
 use Rattle.columns.proofs.Sizes.{held-measured, cards-few}
 use Rattle.columns.proofs.Table.{rest-all}
 use Rattle.cards.specs.Fault.{row}
-use Rattle.reading.specs.Reading.{rows}
-use Rattle.reading.proofs.Answers.{rows-stop, rows-go, rows-surplus, rows-end, row-whole}
-use Rattle.reading.proofs.judge.rows.Statement.{statement}
-use Rattle.reading.proofs.judge.rows.Tie as tie
+use Rattle.judging.specs.Judging.{rows}
+use Rattle.judging.proofs.Answers.{rows-stop, rows-go, rows-surplus, rows-end, row-whole}
+use Rattle.judging.proofs.judge.rows.Statement.{statement}
+use Rattle.judging.proofs.judge.rows.Tie as tie
 
 abbrev Inv-loop : tie.InvT-loop
 Inv-loop deck width height rest₀ left₀ number₀ rest left number =

@@ -1,0 +1,2 @@
+// The cards of a deck, judged one by one.
+pub mod judge;
