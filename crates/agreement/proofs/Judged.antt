@@ -22,7 +22,8 @@ use Rattle.paper.proofs.Marks.{within-fits, cells-slots, names-side-small}
 use Rattle.paper.proofs.Judge.{alike-iff}
 use Rattle.framing.specs.Frame.{framed}
 use Rattle.masks.specs.Mask.{masked}
-use Rattle.lines.specs.Line.{nexts, sides}
+use Rattle.lines.specs.Line.{nexts}
+use Rattle.sides.specs.Side.{sides}
 use Rattle.keeping.specs.Keep.{keeps}
 use Rattle.curves.specs.Link.{alongNext, alongOther}
 use Rattle.drawing.specs.Given.{tables}

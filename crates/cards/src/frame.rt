@@ -7,7 +7,7 @@ ghost use Rattle.cards.specs.Fault.{frame};
 
 // The refusal of the card with a number, whatever its content: 25 where it is missing, 20 where it is no whole card, 22
 // where it does not bear the number; else 0.
-pub(crate) fn refusal(card: &[u8], number: u16) -> u16
+pub fn refusal(card: &[u8], number: u16) -> u16
     ensures { λ r. ⌜ r ≡ frame number (now (card .entry)) ⌝ }
 {
     if card.len() == 0 {

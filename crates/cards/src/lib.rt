@@ -1,4 +1,3 @@
-// What a card is refused for: its frame, as a header, as a row's card.
-mod frame;
-pub mod header;
+// What a card is refused for: its frame, and as a row's card.
+pub mod frame;
 pub mod row;

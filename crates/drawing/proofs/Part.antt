@@ -7,7 +7,8 @@ use Rattle.plane.specs.Dart.{points}
 use Rattle.paper.specs.Level.{tops}
 use Rattle.paper.specs.Joining.{on}
 use Rattle.masks.specs.Mask.{masked}
-use Rattle.lines.specs.Line.{nexts, sides}
+use Rattle.lines.specs.Line.{nexts}
+use Rattle.sides.specs.Side.{sides}
 use Rattle.keeping.specs.Keep.{keeps}
 use Rattle.drawing.specs.Parts.{Lined, Kept}
 

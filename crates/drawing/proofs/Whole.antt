@@ -18,7 +18,8 @@ use Rattle.paper.proofs.Piece.{tops-le}
 use Rattle.paper.proofs.Joined.{parents-drawn}
 use Rattle.framing.specs.Frame.{framed}
 use Rattle.masks.specs.Mask.{masked}
-use Rattle.lines.specs.Line.{nexts, sides}
+use Rattle.lines.specs.Line.{nexts}
+use Rattle.sides.specs.Side.{sides}
 use Rattle.keeping.specs.Keep.{keeps}
 use Rattle.curves.specs.Link.{keptAt, alongNext, alongOther}
 use Rattle.levels.proofs.Paper.{masked-paper, nexts-paper, sides-paper, keeps-paper, alongNext-paper, alongOther-paper}

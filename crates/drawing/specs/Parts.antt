@@ -16,7 +16,8 @@ use Rattle.paper.specs.Drawing.{Tables, recovered, alike}
 use Rattle.paper.specs.Joining.{at, on}
 use Rattle.framing.specs.Frame.{framed}
 use Rattle.masks.specs.Mask.{masked}
-use Rattle.lines.specs.Line.{nexts, sides}
+use Rattle.lines.specs.Line.{nexts}
+use Rattle.sides.specs.Side.{sides}
 use Rattle.keeping.specs.Keep.{keeps}
 use Rattle.curves.specs.Link.{alongNext, alongOther}
 

@@ -7,6 +7,7 @@ use masks::mask;
 use plane::size;
 use region::names;
 use pieces::points;
+use sides::side;
 use table::entry;
 ghost use mathlib.Core.Path.{_≡_};
 ghost use mathlib.Core.Bool.{true};
@@ -48,7 +49,7 @@ pub fn draw_lines(
     let around = points + width as usize + 2;
     mask::masks(width, height, &round[..around], &mut lines[..points]);
     line::nexts(width, height, &lines[..points], next1);
-    line::sides(width, height, &round[..around], &lines[..points], side1);
+    side::sides(width, height, &round[..around], &lines[..points], side1);
 }
 
 // The points that level 3 keeps, at the front of a work table, with the tops of the pieces in another.

@@ -1,8 +1,8 @@
-use cards::header;
 use cards::row;
 use columns::layout;
 use deck::answer::Read;
 use deck::card::LONG;
+use headers::header;
 ghost use mathlib.Core.Path.{_≡_};
 ghost use mathlib.Core.Bool.{true};
 ghost use lib.ListN.{take};

@@ -30,7 +30,8 @@ use Rattle.paper.proofs.Marks.{length-marked, at-held, on-marked, marked-same, 
 use Rattle.framing.specs.Frame.{framed}
 use Rattle.framing.proofs.Surround.{cells-framed}
 use Rattle.masks.specs.Mask.{around, masked, ruled}
-use Rattle.lines.specs.Line.{lined, onward, nexts, others, beheld, sides}
+use Rattle.lines.specs.Line.{lined, onward, nexts, others}
+use Rattle.sides.specs.Side.{beheld, sides}
 use Rattle.keeping.specs.Keep.{kindAt, large, bends, stands, anchored, keeps}
 use Rattle.curves.specs.Link.{ahead, keptAt, starts, lastOf, back, alongNext, alongOther, alongSide}
 use Rattle.levels.specs.Tables.{plainTables, alongTables, tablesOf}

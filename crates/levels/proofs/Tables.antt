@@ -13,7 +13,8 @@ use Rattle.paper.specs.Refusal.{levelTables}
 use Rattle.paper.proofs.Marks.{within-fits}
 use Rattle.framing.specs.Frame.{framed}
 use Rattle.masks.specs.Mask.{masked, ruled}
-use Rattle.lines.specs.Line.{nexts, others, sides}
+use Rattle.lines.specs.Line.{nexts, others}
+use Rattle.sides.specs.Side.{sides}
 use Rattle.keeping.specs.Keep.{bends, keeps}
 use Rattle.curves.specs.Link.{alongNext, alongOther, alongSide}
 use Rattle.levels.specs.Tables.{plainTables, alongTables, tablesOf}

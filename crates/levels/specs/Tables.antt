@@ -7,7 +7,8 @@ use Prim.Native.Nat.{ℕ, zero, suc}
 use Rattle.paper.specs.Level.{tops}
 use Rattle.paper.specs.Joining.{on}
 use Rattle.masks.specs.Mask.{masked, ruled}
-use Rattle.lines.specs.Line.{nexts, others, sides}
+use Rattle.lines.specs.Line.{nexts, others}
+use Rattle.sides.specs.Side.{sides}
 use Rattle.keeping.specs.Keep.{bends, keeps}
 use Rattle.curves.specs.Link.{alongNext, alongOther, alongSide}
 

@@ -3,6 +3,7 @@ use keeping::keep;
 use lines::line;
 use masks::mask;
 use pieces::points;
+use sides::side;
 ghost use mathlib.Core.Path.{_≡_};
 ghost use mathlib.Core.Bool.{true};
 ghost use mathlib.Core.List.{[], _∷_};
@@ -12,7 +13,8 @@ ghost use Rattle.plane.specs.Size.{within};
 ghost use Rattle.plane.specs.Dart.{points, slots};
 ghost use Rattle.paper.specs.Level.{tops};
 ghost use Rattle.paper.specs.Joining.{on};
-ghost use Rattle.lines.specs.Line.{nexts, sides};
+ghost use Rattle.lines.specs.Line.{nexts};
+ghost use Rattle.sides.specs.Side.{sides};
 ghost use Rattle.masks.specs.Mask.{masked};
 ghost use Rattle.keeping.specs.Keep.{keeps};
 ghost use Rattle.levels.specs.Tables.{alongTables, tablesOf};
@@ -41,7 +43,7 @@ fn lines(
 {
     mask::masks(width, height, framed, masks);
     line::nexts(width, height, masks, next);
-    line::sides(width, height, framed, masks, side);
+    side::sides(width, height, framed, masks, side);
 }
 
 // Next, other and side of the level that keeps some points, from level 1 next and side.

@@ -1,5 +1,6 @@
 use lines::line;
 use masks::mask;
+use sides::side;
 ghost use mathlib.Core.Path.{_≡_};
 ghost use mathlib.Core.Bool.{true};
 ghost use mathlib.Core.List.{[], _∷_};
@@ -31,7 +32,7 @@ fn plain(
 {
     line::nexts(width, height, masks, next);
     line::others(width, height, masks, other);
-    line::sides(width, height, framed, masks, side);
+    side::sides(width, height, framed, masks, side);
 }
 
 // Level 0.

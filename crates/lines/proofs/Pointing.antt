@@ -12,12 +12,11 @@ use lib.ListN.{getD, set}
 use borrow.Author.Tests.{le-ltb}
 use Rattle.laws.proofs.Table.{getD-table}
 use Rattle.plane.specs.Dart.{mark, dart, beside, far, turned, reversal}
-use Rattle.plane.specs.Point.{half, has, right}
+use Rattle.plane.specs.Point.{half, has}
 use Rattle.rules.specs.Turn.{turn, turnOf}
 use Rattle.plane.proofs.Darts.{point-dart, direction-dart, turned-below, far-dart, reversal-dart}
 use Rattle.paper.specs.Joining.{at}
-use Rattle.masks.specs.Mask.{around}
-use Rattle.lines.specs.Line.{lined, onward, beheld, turning, fourAt, entryOf, pointed}
+use Rattle.lines.specs.Line.{lined, onward, turning, fourAt, entryOf, pointed}
 use Rattle.table.proofs.Filled.{Filled, filled-more}
 
 -- Four entries, set one after another.
@@ -125,7 +124,7 @@ dart-sum : (p k : ℕ) → 4 * p + k ≡ dart p k
 unfolding dart
 dart-sum p k = refl
 
--- next, other and side at the darts of a point
+-- next and other at the darts of a point
 module _ (w p : ℕ) where
   pub onward-dart : (m : List ℕ) (k q : ℕ) → k < 4 → q ≡ beside w p k → dart q (turnOf (at m q) k) ≡ onward w m (dart p k)
   unfolding onward
@@ -133,10 +132,6 @@ module _ (w p : ℕ) where
 
   pub reversal-back : (k j q : ℕ) → k < 4 → j ≡ turned k 2 → q ≡ beside w p k → 4 * q + j ≡ reversal w (dart p k)
   reversal-back k j q b i e = ap₂ (λ x y. 4 * x + y) e i ∙ dart-sum (beside w p k) (turned k 2) ∙ sym (reversal-dart w p k b)
-
-  pub beheld-dart : (f : List ℕ) (k : ℕ) → k < 4 → right (around w f p) k ≡ beheld w f (dart p k)
-  unfolding beheld
-  beheld-dart f k b = rw (point-dart p k b, direction-dart p k b)
 
 -- a point more
 pub filled-point : (n : ℕ) (m : List ℕ) (f : ℕ → ℕ) (p : ℕ) (o t u : List ℕ) → Filled n (entryOf m f) (4 * p) o t

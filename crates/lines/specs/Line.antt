@@ -4,19 +4,16 @@
 --   turning         == the table of turns
 --   nexts w h m     == the table of next; the mark where the masks have no line
 --   others w h m    == the table of other, likewise
---   beheld w f d    == the side of dart d, from the names f with the outside round them
---   sides w h f m   == the table of sides, likewise
 use mathlib.Core.Bool.{Bool, cond}
 use mathlib.Core.List.{List}
 use Prim.Native.Nat.{ℕ, _/_, _%_}
 use lib.ListN.{set}
 use Rattle.laws.specs.Table.{table}
 use Rattle.plane.specs.Dart.{mark, dart, point, direction, far, reversal}
-use Rattle.plane.specs.Point.{has, right}
+use Rattle.plane.specs.Point.{has}
 use Rattle.rules.specs.Turn.{turnOf}
 use Rattle.paper.specs.Level.{marked}
 use Rattle.paper.specs.Joining.{at}
-use Rattle.masks.specs.Mask.{around}
 
 unfoldable pub lined : List ℕ → ℕ → Bool
 lined m d = has (at m (point d)) (direction d)
@@ -29,12 +26,6 @@ nexts w h m = marked w h (lined m) (onward w m)
 
 unfoldable pub others : ℕ → ℕ → List ℕ → List ℕ
 others w h m = marked w h (lined m) (reversal w)
-
-unfoldable pub beheld : ℕ → List ℕ → ℕ → ℕ
-beheld w f d = right (around w f (point d)) (direction d)
-
-unfoldable pub sides : ℕ → ℕ → List ℕ → List ℕ → List ℕ
-sides w h f m = marked w h (lined m) (beheld w f)
 
 -- the table of turns, at 4 times the mask plus the heading
 unfoldable pub turning : List ℕ

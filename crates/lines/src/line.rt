@@ -1,6 +1,4 @@
-use masks::mask;
 use plane::dart;
-use round::point;
 use rules::turn;
 use table::entry;
 ghost use mathlib.Core.Path.{_≡_};
@@ -12,7 +10,7 @@ ghost use Rattle.plane.specs.Size.{within};
 ghost use Rattle.plane.specs.Dart.{mark, points, slots, dart, beside, reversal};
 ghost use Rattle.rules.specs.Turn.{turnOf};
 ghost use Rattle.paper.specs.Joining.{at};
-ghost use Rattle.lines.specs.Line.{onward, beheld, nexts, others, sides, fourAt, pointed, turning};
+ghost use Rattle.lines.specs.Line.{onward, nexts, others, fourAt, pointed, turning};
 
 // The points one line away from a point.
 struct Near {
@@ -46,7 +44,7 @@ fn beside(width: u16, p: u16) -> Near
 }
 
 // A value where a line is present, that is, its bit is 1; else the mark.
-fn where_present(bit: u16, value: u16) -> u16
+pub fn where_present(bit: u16, value: u16) -> u16
     ensures { λ r. ⌜ r ≡ cond (eqb bit 1) value mark ⌝ }
 {
     if bit == 1 { value } else { dart::MARK }
@@ -154,42 +152,8 @@ pub fn others(width: u16, height: u16, masks: &[u16], other: &mut [u16])
     }
 }
 
-// The sides of the four darts that leave a point.
-fn side_at(width: u16, framed: &[u16], masks: &[u16], side: &mut [u16], p: u16)
-    requires { ⌜
-        (p < length (now masks)) × (p + (width + 2) < length (now framed)) × (dart p 3 < length (now side))
-        ⌝ }
-    ensures { λ _. ⌜ now (side .exit) ≡ pointed (now (masks .entry)) (beheld width (now (framed .entry))) p (now (side .entry)) ⌝ }
-{
-    let lines = masks[p as usize];
-    let half = lines / 2;
-    let quarter = half / 2;
-    let cells = mask::around(width, framed, p);
-    let east = where_present(lines % 2, point::right(cells, dart::Dart::EAST));
-    let south = where_present(half % 2, point::right(cells, dart::Dart::SOUTH));
-    let west = where_present(quarter % 2, point::right(cells, dart::Dart::WEST));
-    let north = where_present(quarter / 2 % 2, point::right(cells, dart::Dart::NORTH));
-    put_four(side, p, east, south, west, north);
-}
-
-// The table of sides of the lines that the masks have, from the names with the outside round them.
-pub fn sides(width: u16, height: u16, framed: &[u16], masks: &[u16], side: &mut [u16])
-    requires { ⌜
-        (within width height ≡ true) × (length (now framed) ≡ points width height + width + 2) ×
-        (length (now masks) ≡ points width height) × (length (now side) ≡ slots width height)
-        ⌝ }
-    ensures { λ _. ⌜ now (side .exit) ≡ sides width height (now (framed .entry)) (now (masks .entry)) ⌝ }
-{
-    let n = (width + 1) * (height + 1);
-    let mut p: u16 = 0;
-    while p < n {
-        side_at(width, framed, masks, side, p);
-        p += 1;
-    }
-}
-
 // Sets the entries of the four darts that leave a point.
-fn put_four(table: &mut [u16], point: u16, east: u16, south: u16, west: u16, north: u16)
+pub fn put_four(table: &mut [u16], point: u16, east: u16, south: u16, west: u16, north: u16)
     requires { ⌜ dart point 3 < length (now table) ⌝ }
     ensures { λ _. ⌜ now (table .exit) ≡ fourAt (now (table .entry)) point east south west north ⌝ }
 {

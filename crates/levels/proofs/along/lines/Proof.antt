@@ -1,4 +1,5 @@
-use Rattle.lines.specs.Line.{nexts, sides}
+use Rattle.lines.specs.Line.{nexts}
+use Rattle.sides.specs.Side.{sides}
 use mathlib.Core.Path.{ap, _∙_}
 use Rattle.levels.proofs.Tables.{three}
 use borrow.Author.Needs.{needs}

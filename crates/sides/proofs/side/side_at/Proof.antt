@@ -1,4 +1,4 @@
-use Rattle.lines.specs.Line.{beheld}
+use Rattle.sides.specs.Side.{beheld}
 use Prim.Native.Nat.{ℕ, _<_}
 use Rattle.plane.specs.Dart.{dart}
 use Rattle.plane.specs.Point.{right}
@@ -6,10 +6,11 @@ use denote.Ref.{now}
 use lib.Dec.{lit<}
 use mathlib.Core.Path.{_≡_, ap, sym, _∙_}
 use Rattle.table.proofs.Entries.{at-entry}
-use Rattle.lines.proofs.Pointing.{pointed-is, beheld-dart}
+use Rattle.lines.proofs.Pointing.{pointed-is}
+use Rattle.sides.proofs.Beheld.{beheld-dart}
 use borrow.Author.Needs.{needs}
-use Rattle.lines.proofs.line.side_at.Statement.{statement}
-use Rattle.lines.proofs.line.side_at.Tie as tie
+use Rattle.sides.proofs.side.side_at.Statement.{statement}
+use Rattle.sides.proofs.side.side_at.Tie as tie
 
 mul-lines : tie.Need-mul-lines
 mul-lines c = search needs

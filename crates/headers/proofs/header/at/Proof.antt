@@ -1,8 +1,8 @@
 use mathlib.Core.Path.{sym}
 use lib.ListN.{List·getD-eq-default}
 use borrow.Author.Needs.{needs}
-use Rattle.cards.proofs.header.at.Statement.{statement}
-use Rattle.cards.proofs.header.at.Tie as tie
+use Rattle.headers.proofs.header.at.Statement.{statement}
+use Rattle.headers.proofs.header.at.Tie as tie
 
 shared-slice-read-result : tie.Need-shared-slice-read-result
 shared-slice-read-result c = search needs

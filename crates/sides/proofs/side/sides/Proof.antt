@@ -1,15 +1,16 @@
 use mathlib.Core.Path.{sym, _∙_}
 use Prim.Native.Nat.{_-_, _*_}
 use Rattle.paper.specs.Level.{marked}
-use Rattle.lines.specs.Line.{beheld, entryOf, sides}
+use Rattle.lines.specs.Line.{entryOf}
+use Rattle.sides.specs.Side.{beheld, sides}
 use Rattle.plane.proofs.Fit.{points-fit}
 use Rattle.plane.proofs.Limit.{within-limits}
 use Rattle.plane.specs.Dart.{points, slots, dart}
 use Rattle.lines.proofs.Pointing.{filled-point}
 use native.Mathlib.Omega.{arith}
 use Rattle.table.proofs.Filled.{Filled, filled-none, filled-all}
-use Rattle.lines.proofs.line.sides.Statement.{statement}
-use Rattle.lines.proofs.line.sides.Tie as tie
+use Rattle.sides.proofs.side.sides.Statement.{statement}
+use Rattle.sides.proofs.side.sides.Tie as tie
 
 abbrev Inv-loop : tie.InvT-loop
 Inv-loop width height framed masks side₀ n p₀ side p =

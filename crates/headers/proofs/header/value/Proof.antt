@@ -1,7 +1,7 @@
 use borrow.Author.Needs.{needs}
 use Rattle.cards.specs.Fault.{value}
-use Rattle.cards.proofs.header.value.Statement.{statement}
-use Rattle.cards.proofs.header.value.Tie as tie
+use Rattle.headers.proofs.header.value.Statement.{statement}
+use Rattle.headers.proofs.header.value.Tie as tie
 
 worth-requires : tie.Need-worth-requires
 worth-requires c κs = search needs

@@ -1,4 +1,4 @@
-use crate::frame;
+use cards::frame;
 use columns::bytes;
 use columns::layout;
 use deck::card::COLUMNS;
