@@ -1,32 +1,33 @@
 use native.Mathlib.Nat.{one-mul}
+use lib.Dec.{lit<}
 use Rattle.plane.specs.Point.{bits, right, left, parts, present}
 use borrow.Author.Needs.{needs}
 use Rattle.round.proofs.point.present.Statement.{statement}
 use Rattle.round.proofs.point.present.Tie as tie
 
 corner-requires : tie.Need-corner-requires
-corner-requires c κs = search needs
+corner-requires c κs = (lit< tt, lit< tt)
 
 corner-requires-2 : tie.Need-corner-requires-2
-corner-requires-2 c κs = search needs
+corner-requires-2 c κs = (lit< tt, lit< tt)
 
 corner-requires-3 : tie.Need-corner-requires-3
-corner-requires-3 c κs = search needs
+corner-requires-3 c κs = (lit< tt, lit< tt)
 
 corner-requires-4 : tie.Need-corner-requires-4
-corner-requires-4 c κs = search needs
+corner-requires-4 c κs = (lit< tt, lit< tt)
 
 where-differ-requires : tie.Need-where-differ-requires
-where-differ-requires c κs = search needs
+where-differ-requires c κs = tt
 
 where-differ-requires-2 : tie.Need-where-differ-requires-2
-where-differ-requires-2 c κs = search needs
+where-differ-requires-2 c κs = tt
 
 where-differ-requires-3 : tie.Need-where-differ-requires-3
-where-differ-requires-3 c κs = search needs
+where-differ-requires-3 c κs = tt
 
 where-differ-requires-4 : tie.Need-where-differ-requires-4
-where-differ-requires-4 c κs = search needs
+where-differ-requires-4 c κs = tt
 
 add-result : tie.Need-add-result
 add-result c = search needs

@@ -1,20 +1,20 @@
 use Rattle.plane.specs.Point.{right}
 use Rattle.plane.proofs.Arm.{right-rest}
-use borrow.Author.Needs.{needs}
+use lib.Dec.{lit<}
 use Rattle.round.proofs.point.right.Statement.{statement}
 use Rattle.round.proofs.point.right.Tie as tie
 
 corner-requires : tie.Need-corner-requires
-corner-requires c κs = search needs
+corner-requires c κs = (lit< tt, lit< tt)
 
 corner-requires-2 : tie.Need-corner-requires-2
-corner-requires-2 c κs = search needs
+corner-requires-2 c κs = (lit< tt, lit< tt)
 
 corner-requires-3 : tie.Need-corner-requires-3
-corner-requires-3 c κs = search needs
+corner-requires-3 c κs = (lit< tt, lit< tt)
 
 corner-requires-4 : tie.Need-corner-requires-4
-corner-requires-4 c κs = search needs
+corner-requires-4 c κs = (lit< tt, lit< tt)
 
 returns : tie.Need-returns
 unfolding right
