@@ -1,7 +1,6 @@
 use columns::bytes;
 use columns::layout;
 use deck::answer::Written;
-use deck::card;
 use deck::card::LONG;
 use plane::size;
 ghost use mathlib.Core.Path.{_≡_};
@@ -14,27 +13,6 @@ ghost use Rattle.deck.specs.Card.{every, visible, long, card};
 ghost use Rattle.deck.specs.Outcome.{writeOutcome};
 ghost use Rattle.columns.specs.Layout.{heading, rowCards};
 ghost use Rattle.writing.specs.Writing.{rowDeck, deckLength, writing};
-
-const LOWEST: u16 = card::LOWEST as u16;
-
-const HIGHEST: u16 = card::HIGHEST as u16;
-
-// Whether each label may stand on a card: 33 to 126.
-fn visible(sheet: &[u16]) -> bool
-    ensures { λ r. ⌜ r ≡ every visible (now (sheet .entry)) ⌝ }
-{
-    let mut i = 0;
-    while i < sheet.len() {
-        if sheet[i] < LOWEST {
-            return false;
-        }
-        if HIGHEST < sheet[i] {
-            return false;
-        }
-        i += 1;
-    }
-    true
-}
 
 // Writes the header's card.
 fn put_header(width: u16, height: u16, deck: &mut [u8])
@@ -84,7 +62,7 @@ pub fn write(width: u16, height: u16, sheet: &[u16], deck: &mut [u8]) -> Written
     if deck.len() != LONG * (layout::row_cards(width, height) as usize + 1) {
         return Written::Deck;
     }
-    if !visible(sheet) {
+    if !labels::visible(sheet) {
         return Written::Label;
     }
     put_header(width, height, deck);

@@ -4,8 +4,8 @@ use native.Mathlib.Omega.{arith}
 use lib.ListN.{length, drop}
 use Rattle.deck.specs.Card.{lowest, highest, every, visible}
 use Rattle.columns.proofs.Every.{between-below, between-above, between-inside, every-stop, every-go, every-end}
-use Rattle.writing.proofs.write.visible.Statement.{statement}
-use Rattle.writing.proofs.write.visible.Tie as tie
+use Rattle.labels.proofs.visible.Statement.{statement}
+use Rattle.labels.proofs.visible.Tie as tie
 
 abbrev Inv-loop : tie.InvT-loop
 Inv-loop sheet i₀ i = every visible (drop i sheet) ≡ every visible sheet
