@@ -90,13 +90,7 @@ fn next_at(width: u16, turns: &[u16; 64], masks: &[u16], next: &mut [u16], p: u1
     let east = follow(turns, masks, lines % 2, far.east, dart::Dart::EAST);
     let south = follow(turns, masks, half % 2, far.south, dart::Dart::SOUTH);
     let west = follow(turns, masks, quarter % 2, far.west, dart::Dart::WEST);
-    let north = follow(
-        turns,
-        masks,
-        quarter / 2 % 2,
-        far.north,
-        dart::Dart::NORTH,
-    );
+    let north = follow(turns, masks, quarter / 2 % 2, far.north, dart::Dart::NORTH);
     put_four(next, p, east, south, west, north);
 }
 

@@ -59,7 +59,7 @@ returns c =
     let m = now (a .masks) in
     let f = beheld (a .width) (now (a .framed)) in
     let seen : (k : ℕ) → k < 4 → right (o .around .result) k ≡ f (dart (a .p) k) =
-        λ k b. ap (λ t. right t k) (o .around .ensures) ∙ beheld-dart (a .width) (a .p) (now (a .framed)) k b in
+    λ k b. ap (λ t. right t k) (o .around .ensures) ∙ beheld-dart (a .width) (a .p) (now (a .framed)) k b in
     pointed-is m (a .p) f _ _ _ _ _ _ _ _ _ _ _ (sym (at-entry m (a .p) (s .pre .0)))
     (c .before .before .before .before .before .before .before .before .before .before .where-present .ensures) (c .before .before .before .before .before .before .before .before .before .before .before .right .ensures ∙ seen 0 (lit< tt))
     (c .before .before .before .before .before .before .before .before .where-present2 .ensures) (c .before .before .before .before .before .before .before .before .before .right2 .ensures ∙ seen 1 (lit< tt))
