@@ -6,10 +6,10 @@ use mathlib.Core.Logic.{_≢_}
 use Prim.Native.Nat.{ℕ, _+_, _<_}
 use native.Mathlib.Omega.{arith}
 use lib.Dec.{eqb}
-use lib.ListN.{length, getD}
+use lib.ListN.{getD}
 use borrow.Author.Tests.{eq-eqb, ne-eqb}
 use Rattle.plane.specs.Dart.{mark}
-use Rattle.paper.specs.Joining.{at, on}
+use Rattle.paper.specs.Joining.{on}
 use Rattle.paper.specs.Enclosure.{above, depth}
 use Rattle.table.proofs.Entries.{at-in}
 use Rattle.tree.specs.Tree.{known}
