@@ -1,2 +1,2 @@
-// What the four cells round a point tell: its lines, their sides, how many they are and which are in line.
+// What the four cells round a point tell: its lines, and their sides.
 pub mod point;

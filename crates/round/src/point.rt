@@ -3,7 +3,7 @@ ghost use mathlib.Core.Bool.{not};
 ghost use Prim.Native.Nat.{_*_, _≤_, _<_};
 ghost use lib.Dec.{eqb};
 ghost use Rattle.laws.specs.Table.{number};
-ghost use Rattle.plane.specs.Point.{corner, right, left, present, degree, inline};
+ghost use Rattle.plane.specs.Point.{corner, right, left, present};
 
 // The cell in a row and a column of the four.
 fn corner(cells: [[u16; 2]; 2], row: usize, column: usize) -> u16
@@ -33,28 +33,6 @@ pub fn present(cells: [[u16; 2]; 2]) -> u16
     let west = where_differ(nw, sw, 4);
     let north = where_differ(ne, nw, 8);
     east + south + west + north
-}
-
-// How many lines are present at a point.
-pub fn degree(cells: [[u16; 2]; 2]) -> u16
-    ensures { λ r. ⌜ r ≡ degree (present cells) ⌝ }
-{
-    let lines = present(cells);
-    let half = lines / 2;
-    let quarter = half / 2;
-    lines % 2 + half % 2 + quarter % 2 + quarter / 2 % 2
-}
-
-// The mask of the present lines whose opposite line is present too.
-pub fn in_line(cells: [[u16; 2]; 2]) -> u16
-    ensures { λ r. ⌜ r ≡ inline (present cells) ⌝ }
-{
-    let lines = present(cells);
-    let half = lines / 2;
-    let quarter = half / 2;
-    let along = lines % 2 + quarter % 2;
-    let down = half % 2 + quarter / 2 % 2;
-    5 * (along / 2) + 10 * (down / 2)
 }
 
 // The cell on the right hand of the line that leaves a point in a direction; 0 for no direction.

@@ -1,7 +1,7 @@
 use Rattle.plane.proofs.Mask.{inline-sum}
 use borrow.Author.Needs.{needs}
-use Rattle.round.proofs.point.in_line.Statement.{statement}
-use Rattle.round.proofs.point.in_line.Tie as tie
+use Rattle.degrees.proofs.in_line.Statement.{statement}
+use Rattle.degrees.proofs.in_line.Tie as tie
 
 present-requires : tie.Need-present-requires
 present-requires c κs = search needs

@@ -1,7 +1,7 @@
 use Rattle.plane.proofs.Mask.{degree-sum}
 use borrow.Author.Needs.{needs}
-use Rattle.round.proofs.point.degree.Statement.{statement}
-use Rattle.round.proofs.point.degree.Tie as tie
+use Rattle.degrees.proofs.degree.Statement.{statement}
+use Rattle.degrees.proofs.degree.Tie as tie
 
 present-requires : tie.Need-present-requires
 present-requires c κs = search needs
