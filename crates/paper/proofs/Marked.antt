@@ -39,7 +39,8 @@ hold-same : (cs : List Claim) → hold cs ≡ true
 unfolding hold
 hold-same [] h = refl
 hold-same (c ∷ cs) h =
-    ap₂ _∷_ (alike-iff (c .computed) (c .stated) .0 (and-left _ (hold cs) h)) (hold-same cs (and-right (alike (c .computed) (c .stated)) _ h))
+    ap₂ _∷_ (alike-iff (c .computed) (c .stated) .0 (and-left _ (hold cs) h))
+    (hold-same cs (and-right (alike (c .computed) (c .stated)) _ h))
 
 darts : ℕ → ℕ → List ℕ → List ℕ
 darts w h s =

@@ -40,7 +40,20 @@ add-result-3 c = search needs
 
 returns : tie.Need-returns
 unfolding bits right left parts present
-returns c = rw (c .before .before .before .where-differ .ensures .0, c .before .before .where-differ2 .ensures .0, c .before .where-differ3 .ensures .0, c .where-differ4 .ensures .0, c .before .before .before .before .before .before .before .corner .ensures, c .before .before .before .before .before .before .corner2 .ensures, c .before .before .before .before .before .corner3 .ensures, c .before .before .before .before .corner4 .ensures, one-mul)
+returns c =
+    let d = c .before .before .before in
+    let e = d .before in
+    rw (
+      d .where-differ .ensures .0,
+      c .before .before .where-differ2 .ensures .0,
+      c .before .where-differ3 .ensures .0,
+      c .where-differ4 .ensures .0,
+      e .before .before .before .corner .ensures,
+      e .before .before .corner2 .ensures,
+      e .before .corner3 .ensures,
+      e .corner4 .ensures,
+      one-mul,
+    )
 
 pub present-spec : {M : Type 1} → statement M
 present-spec =
