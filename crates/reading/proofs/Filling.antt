@@ -8,7 +8,7 @@ use mathlib.Core.List.{List, _++_, append-assoc, append-nil}
 use Prim.Native.Nat.{ℕ, zero, suc, _+_, _*_, _-_, _≤_, _<_}
 use native.Mathlib.Numerals.{add-one, sub-one}
 use native.Mathlib.Omega.{arith}
-use lib.ListN.{length, getD, take, drop, replicate, length-append, length-replicate, getD-replicate}
+use lib.ListN.{length, take, drop, replicate, length-append}
 use lib.Seq.{paste, length-paste, take-at, take-paste, take-length, length-take-le}
 use Rattle.plane.specs.Size.{within}
 use Rattle.plane.proofs.Fit.{cells-fit}
@@ -17,7 +17,6 @@ use Rattle.deck.specs.Card.{long, part}
 use Rattle.deck.proofs.Parts.{whole-is, part-held}
 use Rattle.columns.specs.Layout.{rowCards, held}
 use Rattle.columns.proofs.Sizes.{held-measured, held-most, sum, sum-all}
-use Rattle.columns.proofs.Table.{getD-past}
 use Rattle.cards.specs.Fault.{row}
 use Rattle.cards.proofs.Frames.{frame-none, row-frame}
 use Rattle.judging.specs.Judging.{rows}
@@ -123,18 +122,3 @@ module _ (w h : ℕ) (size : within w h ≡ true) (goal table rest : List ℕ) (
       let b = filling-within zero f in
       rw (← g, length-take-le from table b, f .length-is)
   filling-end (suc n) p f = absurd (omega arith)
-
--- The table l with 0 from a place on.
-module _ (from : ℕ) (l : List ℕ) (h : from ≤ length l) where
-  pub length-cleared : length (take from l ++ replicate (length l - from) 0) ≡ length l
-  length-cleared = simp (length-append, length-take-le from l h, length-replicate) (omega arith)
-
-  pub cleared-front : take from l ≡ take from (take from l ++ replicate (length l - from) 0)
-  cleared-front = sym (take-at (take from l) _ from (length-take-le from l h))
-
-  pub cleared-back : (i : ℕ) → from ≤ i → i < length l → 0 ≡ getD (take from l ++ replicate (length l - from) 0) i 0
-  cleared-back i b k =
-      let n = length-take-le from l h in
-      let f : length (take from l) ≤ i = omega arith in
-      sym
-      (getD-past (take from l) _ i f ∙ getD-replicate (length l - from) (i - length (take from l)) 0 0 (omega arith))

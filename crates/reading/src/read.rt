@@ -4,10 +4,7 @@ use deck::card;
 use deck::card::LONG;
 use judging::judge;
 ghost use mathlib.Core.Path.{_≡_};
-ghost use mathlib.Core.List.{_++_};
-ghost use Prim.Native.Nat.{_+_, _-_, _≤_};
-ghost use lib.ListN.{length, take, drop, replicate};
-ghost use lib.Seq.{paste};
+ghost use lib.ListN.{length, drop};
 ghost use Rattle.deck.specs.Card.{long};
 ghost use Rattle.deck.specs.Outcome.{readOutcome};
 ghost use Rattle.columns.specs.Layout.{rowCards};
@@ -16,32 +13,6 @@ ghost use Rattle.reading.specs.Reading.{room, cells, filled, reading};
 
 // The length of the reader's cell table.
 pub const CELLS: usize = 5184;
-
-// Copies a row's cells into the cell table from a place on, and answers the place after them.
-fn copy(row: &[u8], cells: &mut [u16], from: usize) -> usize
-    requires { ⌜ from + length (now row) ≤ length (now cells) ⌝ }
-    ensures { λ r. ⌜ (r ≡ from + length (now (row .entry)))
-        × (now (cells .exit) ≡ paste (now (cells .entry)) from (now (row .entry)) (length (now (row .entry)))) ⌝ }
-{
-    let mut i = 0;
-    while i < row.len() {
-        cells[from + i] = row[i] as u16;
-        i += 1;
-    }
-    from + i
-}
-
-// Sets the cell table to 0 from a place on.
-fn clear(cells: &mut [u16], from: usize)
-    requires { ⌜ from ≤ length (now cells) ⌝ }
-    ensures { λ _. ⌜ now (cells .exit) ≡ take from (now (cells .entry)) ++ replicate (length (now (cells .entry)) - from) 0 ⌝ }
-{
-    let mut i = from;
-    while i < cells.len() {
-        cells[i] = 0;
-        i += 1;
-    }
-}
 
 // Copies the cells of a deck that reads as a sheet into the cell table, and sets the rest of it to 0.
 fn fill(deck: &[u8], width: u16, height: u16, table: &mut [u16])
@@ -54,7 +25,7 @@ fn fill(deck: &[u8], width: u16, height: u16, table: &mut [u16])
     let mut number: u16 = 2;
     let mut from: usize = 0;
     while 0 < left {
-        from = copy(
+        from = filling::copy(
             card::part(layout::held(width, number), judge::next(rest)),
             table,
             from,
@@ -63,7 +34,7 @@ fn fill(deck: &[u8], width: u16, height: u16, table: &mut [u16])
         left = left - 1;
         number = number + 1;
     }
-    clear(table, from);
+    filling::clear(table, from);
 }
 
 // Reads a deck: answers the width and the height of its sheet, with the cells in row order at the front of the cell table

@@ -4,8 +4,8 @@ use native.Mathlib.Numerals.{add-one}
 use native.Mathlib.Omega.{arith}
 use lib.ListN.{length}
 use lib.Seq.{paste, paste-zero, paste-suc, length-paste}
-use Rattle.reading.proofs.read.copy.Statement.{statement}
-use Rattle.reading.proofs.read.copy.Tie as tie
+use Rattle.filling.proofs.copy.Statement.{statement}
+use Rattle.filling.proofs.copy.Tie as tie
 
 abbrev Inv-loop : tie.InvT-loop
 Inv-loop row cells₀ from i₀ cells i = (i ≤ length row) × (cells ≡ paste cells₀ from row i)

@@ -5,9 +5,9 @@ use native.Mathlib.Nat.{le-refl}
 use native.Mathlib.Omega.{arith}
 use lib.ListN.{length, take, replicate, length-set}
 use Rattle.columns.proofs.Table.{fill-more, fill-end}
-use Rattle.reading.proofs.Filling.{length-cleared, cleared-front, cleared-back}
-use Rattle.reading.proofs.read.clear.Statement.{statement}
-use Rattle.reading.proofs.read.clear.Tie as tie
+use Rattle.filling.proofs.Cleared.{length-cleared, cleared-front, cleared-back}
+use Rattle.filling.proofs.clear.Statement.{statement}
+use Rattle.filling.proofs.clear.Tie as tie
 
 abbrev Inv-loop : tie.InvT-loop
 Inv-loop cells₀ from i₀ cells i =
