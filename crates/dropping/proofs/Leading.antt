@@ -76,6 +76,10 @@ pub chase-four : (l : Links) (f : ℕ → Bool) (d x y z r : ℕ) → x ≡ leap
 chase-four l f d x y z r p q u v =
     v ∙ ap (leaping l f) (u ∙ ap (leaping l f) (q ∙ ap (leaping l f) p)) ∙ sym (chase-hops l f d)
 
+-- a dart that a chase does not go on from
+pub chase-rests : (l : Links) (f : ℕ → Bool) (d x : ℕ) → x ≡ leaping l f d → x ≡ d → d ≡ chase l f d
+chase-rests l f d x p e = let q = sym e ∙ p in chase-four l f d d d d d q q q q
+
 pub chase-still : (l : Links) (f : ℕ → Bool) (d : ℕ) → f d ≡ false → chase l f d ≡ d
 unfolding chase
 chase-still l f d e = chases-left l f 4 d e

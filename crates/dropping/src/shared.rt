@@ -59,6 +59,9 @@ fn chase(side: &[u16], other: &[u16], a: u16, b: u16, next: &[u16], dart: u16) -
         ⌝ }
 {
     let second = goes_on(side, other, a, b, next, dart);
+    if second == dart {
+        return dart;
+    }
     let third = goes_on(side, other, a, b, next, second);
     let fourth = goes_on(side, other, a, b, next, third);
     goes_on(side, other, a, b, next, fourth)

@@ -2,7 +2,7 @@
 --   at t d, on t d  == the entry of dart d, the mark past the end; that it is not the mark
 --   SeenAt m p b u v == of the lines m at point p: b, they are two; u and v, the darts of the first and of the last
 use mathlib.Core.Path.{_≡_, sym, _∙_, ap}
-use mathlib.Core.Bool.{Bool, true}
+use mathlib.Core.Bool.{Bool, true, not}
 use mathlib.Core.List.{List}
 use Prim.Native.Nat.{ℕ, _+_, _*_, _≤_, _<_, zero-le}
 use native.Mathlib.Nat.{add-zero, one-mul, mul-zero, mul-one, le-refl}
@@ -17,26 +17,25 @@ use Rattle.rules.proofs.Kind.{kind-alone, kind-two}
 use Rattle.paper.specs.Level.{mask}
 use Rattle.paper.specs.Joining.{at, on, low, high}
 use Rattle.paper.proofs.Next.{mask-below}
-use Rattle.table.proofs.Entries.{on-mark, on-entry}
 use Rattle.ends.specs.Seen.{SeenAt}
 
-module _ (t : List ℕ) (d : ℕ) where
-  -- a value where there is an entry, else 0
-  pub where-off : (v r : ℕ) → r ≡ at t d → r ≡ mark → (0 ≡ v * number (on t d)) × (0 ≤ v)
-  where-off v r e m = (rw (on-mark t d (sym e ∙ m), mul-zero), zero-le)
+-- a weight where what was found is not the mark, else 0
+pub where-off : (r v : ℕ) → r ≡ mark → (0 ≡ v * number (not (eqb r mark))) × (0 ≤ v)
+where-off r v e = (rw (eq-eqb r mark e, mul-zero), zero-le)
 
-  pub where-on : (v r : ℕ) → r ≡ at t d → (r ≡ mark → ⊥) → (v ≡ v * number (on t d)) × (v ≤ v)
-  where-on v r e n = (rw (on-entry t d (λ m. n (e ∙ m)), mul-one), le-refl v)
+pub where-on : (r v : ℕ) → (r ≡ mark → ⊥) → (v ≡ v * number (not (eqb r mark))) × (v ≤ v)
+where-on r v n = (rw (ne-eqb r mark n, mul-one), le-refl v)
 
 -- The mask of a point, line by line.
-pub mask-sum : (t : List ℕ) (p a b c d : ℕ) → a ≡ 1 * number (on t (4 * p)) → b ≡ 2 * number (on t (4 * p + 1))
-    → c ≡ 4 * number (on t (4 * p + 2)) → d ≡ 8 * number (on t (4 * p + 3))
+pub mask-sum : (e s w n a b c d : ℕ) → a ≡ 1 * number (not (eqb e mark)) → b ≡ 2 * number (not (eqb s mark))
+    → c ≡ 4 * number (not (eqb w mark)) → d ≡ 8 * number (not (eqb n mark)) → (t : List ℕ) (p : ℕ) → e ≡ at t (4 * p)
+    → s ≡ at t (4 * p + 1) → w ≡ at t (4 * p + 2) → n ≡ at t (4 * p + 3)
     → (a + b + c + d ≡ mask (on t) p) × (a + b + c + d < 16)
-unfolding mask bits dart
-mask-sum t p a b c d e f g h = let s = sum in (s, rw s (mask-below (on t) p))
+unfolding mask bits dart on
+mask-sum e s w n a b c d i j k l t p x y z u = (sum, rw sum (mask-below (on t) p))
   where
     sum : a + b + c + d ≡ mask (on t) p
-    sum = rw (add-zero, e, f, g, h, one-mul)
+    sum = rw (add-zero, i, j, k, l, x, y, z, u, one-mul)
 
 -- what the point table says of a mask where no line is taken
 module _ (ks : List ℕ) (m k : ℕ) (b : m < 16) (q : ks ≡ kinding) (e : k ≡ getD ks m 0) where

@@ -3,14 +3,16 @@ use plane::dart;
 use rules::turn;
 use table::entry;
 ghost use mathlib.Core.Path.{_≡_};
-ghost use Prim.Native.Nat.{_*_, _≤_, _<_};
+ghost use mathlib.Core.Bool.{not};
+ghost use mathlib.Core.List.{List};
+ghost use Prim.Native.Nat.{ℕ, _+_, _*_, _≤_, _<_};
 ghost use lib.Dec.{eqb};
 ghost use Rattle.laws.specs.Table.{number};
 ghost use Rattle.plane.specs.Dart.{mark, dart};
 ghost use Rattle.plane.specs.Point.{degree};
 ghost use Rattle.rules.specs.Turn.{kinding};
 ghost use Rattle.paper.specs.Level.{mask};
-ghost use Rattle.paper.specs.Joining.{on, low, high};
+ghost use Rattle.paper.specs.Joining.{at, on, low, high};
 ghost use Rattle.ends.specs.Seen.{SeenAt};
 
 // Whether exactly two darts of a level leave a point, and the first and the last that do.
@@ -20,27 +22,45 @@ pub struct Ends {
     pub last: u16,
 }
 
-// A value where the table has an entry for a dart, else 0.
-fn where_on(table: &[u16], dart: u16, value: u16) -> u16
-    ensures { λ r. ⌜ (r ≡ value * number (on (now (table .entry)) dart)) × (r ≤ value) ⌝ }
+// A weight where what was found is not the mark, else 0.
+fn where_on(found: u16, weight: u16) -> u16
+    ensures { λ r. ⌜ (r ≡ weight * number (not (eqb found mark))) × (r ≤ weight) ⌝ }
 {
-    if entry::get(table, dart) == dart::MARK {
+    if found == dart::MARK {
         return 0;
     }
-    value
+    weight
 }
 
-// The mask of the lines at a point for which a table has entries.
+// The mask of a point's lines from what a table has for its four darts.
+fn mask_of(east: u16, south: u16, west: u16, north: u16) -> u16
+    ensures { λ r. ⌜
+        ((t : List ℕ) (p : ℕ) → east ≡ at t (4 * p) → south ≡ at t (4 * p + 1) → west ≡ at t (4 * p + 2) →
+        north ≡ at t (4 * p + 3) → (r ≡ mask (on t) p) × (r < 16))
+        ⌝ }
+{
+    let e = where_on(east, 1);
+    let s = where_on(south, 2);
+    let w = where_on(west, 4);
+    let n = where_on(north, 8);
+    e + s + w + n
+}
+
+// The mask of the lines at a point for which a table has entries. One test serves the four where the table reaches.
 pub fn mask(table: &[u16], point: u16) -> u16
     requires { ⌜ dart point 3 < mark ⌝ }
     ensures { λ r. ⌜ (r ≡ mask (on (now (table .entry))) point) × (r < 16) ⌝ }
 {
     let d = 4 * point;
-    let east = where_on(table, d, 1);
-    let south = where_on(table, d + 1, 2);
-    let west = where_on(table, d + 2, 4);
-    let north = where_on(table, d + 3, 8);
-    east + south + west + north
+    let i = d as usize;
+    if i + 3 < table.len() {
+        return mask_of(table[i], table[i + 1], table[i + 2], table[i + 3]);
+    }
+    let east = entry::get(table, d);
+    let south = entry::get(table, d + 1);
+    let west = entry::get(table, d + 2);
+    let north = entry::get(table, d + 3);
+    mask_of(east, south, west, north)
 }
 
 // Whether one dart alone leaves a point: the point table, with no line taken, says that this cannot be.

@@ -23,12 +23,12 @@ pub reversal-number : (w d q : ℕ) → q ≡ beside w (d / 4) (d % 4) → 4 * q
 unfolding reversal dart far turned point direction
 reversal-number w d q e = rw e
 
--- a point's four reversals, two by two
-pub put-all : (w p : ℕ) (t t₁ t₂ : List ℕ) (a b c d : ℕ) → a ≡ reversal w (4 * p) → b ≡ reversal w (4 * p + 1)
-    → c ≡ reversal w (4 * p + 2) → d ≡ reversal w (4 * p + 3) → t₁ ≡ set (set t (4 * p) a) (4 * p + 1) b
-    → t₂ ≡ set (set t₁ (4 * p + 2) c) (4 * p + 3) d → t₂ ≡ putReversals w p t
+-- a point's four reversals
+pub put-all : (w p : ℕ) (t : List ℕ) (a b c d : ℕ) → a ≡ reversal w (4 * p) → b ≡ reversal w (4 * p + 1)
+    → c ≡ reversal w (4 * p + 2) → d ≡ reversal w (4 * p + 3)
+    → set (set (set (set t (4 * p) a) (4 * p + 1) b) (4 * p + 2) c) (4 * p + 3) d ≡ putReversals w p t
 unfolding putReversals dart
-put-all w p t t₁ t₂ a b c d e f g h u v = rw (add-zero, v, u, e, f, g, h)
+put-all w p t a b c d e f g h = rw (add-zero, e, f, g, h)
 
 -- the table so far, a point more
 pub reversals-more : (w p : ℕ) (s t : List ℕ) → Half (reversal w) (dart p 0) s t → dart p 3 < length s

@@ -1,5 +1,4 @@
 use plane::dart;
-use table::entry;
 ghost use mathlib.Core.Path.{_≡_};
 ghost use mathlib.Core.Bool.{true};
 ghost use Prim.Native.Nat.{_+_, _*_, _<_};
@@ -20,18 +19,14 @@ pub fn reversal(width: u16, dart: u16) -> u16
 
 // The reversals of the darts that leave a point.
 fn put_reversals(width: u16, point: u16, back: &mut [u16])
-    requires { ⌜ dart point 3 + 4 * (width + 2) < mark ⌝ }
+    requires { ⌜ (dart point 3 + 4 * (width + 2) < mark) × (dart point 3 < length (now back)) ⌝ }
     ensures { λ _. ⌜ now (back .exit) ≡ putReversals width point (now (back .entry)) ⌝ }
 {
     let d = 4 * point;
-    entry::put_pair(back, d, reversal(width, d), d + 1, reversal(width, d + 1));
-    entry::put_pair(
-        back,
-        d + 2,
-        reversal(width, d + 2),
-        d + 3,
-        reversal(width, d + 3),
-    );
+    back[d as usize] = reversal(width, d);
+    back[(d + 1) as usize] = reversal(width, d + 1);
+    back[(d + 2) as usize] = reversal(width, d + 2);
+    back[(d + 3) as usize] = reversal(width, d + 3);
 }
 
 // The reversal of every slot.

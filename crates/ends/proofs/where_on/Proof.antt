@@ -3,16 +3,13 @@ use Rattle.ends.proofs.Seeing.{where-off, where-on}
 use Rattle.ends.proofs.where_on.Statement.{statement}
 use Rattle.ends.proofs.where_on.Tie as tie
 
-get-requires : tie.Need-get-requires
-get-requires c κs = tt
-
 returns : tie.Need-returns
 unfolding mark
-returns c = where-off _ _ _ _ (c .before .get .ensures) (c .if1 .taken)
+returns c = where-off _ _ (c .if1 .taken)
 
 returns-2 : tie.Need-returns-2
 unfolding mark
-returns-2 c = where-on _ _ _ _ (c .before .get .ensures) (c .if1 .left)
+returns-2 c = where-on _ _ (c .if1 .left)
 
 pub where-on-spec : {M : Type 1} → statement M
-where-on-spec = tie.close (tie.spec get-requires returns returns-2)
+where-on-spec = tie.close (tie.spec returns returns-2)

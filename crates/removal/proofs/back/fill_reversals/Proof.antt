@@ -29,10 +29,11 @@ unfolding dart
 loop-holds c = half-none _ _
 
 put-reversals-requires : tie.Need-put-reversals-requires Inv-loop μ-loop
-unfolding points dart mark
+unfolding slots points dart mark
 put-reversals-requires c κs =
     let q = c .before .before .before .before .pre in
-    omega (arith, points-fit _ _ (q .0), within-limits _ _ (q .0), c .before .loop-test .taken)
+    let r = c .before .before .loop .inv in
+    omega (arith, points-fit _ _ (q .0), within-limits _ _ (q .0), q .1, r .long, c .before .loop-test .taken)
 
 add-point : tie.Need-add-point Inv-loop μ-loop
 unfolding points
