@@ -12,20 +12,20 @@ use lib.Dec.{eqb}
 use lib.ListN.{length, getD}
 use borrow.Author.Tests.{eq-eqb, ne-eqb, eqb-true, not-false}
 use Rattle.laws.specs.Table.{table}
-use Rattle.laws.proofs.Table.{getD-table, table-agree}
+use Rattle.laws.proofs.Table.{length-table, getD-table, table-agree}
 use Rattle.laws.proofs.Test.{clash}
 use Rattle.plane.specs.Dart.{mark, slots}
 use Rattle.paper.specs.Level.{marked}
 use Rattle.paper.specs.Joining.{Links, at, on, shared, chase, removed}
 use Rattle.paper.proofs.Marks.{at-below, at-past}
 use Rattle.curves.specs.Link.{alongSide}
-use Rattle.table.proofs.Entries.{at-in, at-entry, at-out, on-mark}
+use Rattle.table.proofs.Entries.{at-in, at-entry, at-out, on-mark, on-entry}
 use Rattle.table.proofs.Half.{Half, half-here}
 use Rattle.removal.specs.Links.{links}
 use Rattle.removal.specs.Taken.{leaping}
 use Rattle.removal.proofs.Taking.{chases-left, chase-hops}
 use Rattle.dropping.specs.Dropped.{led}
-use Rattle.dropping.specs.Listed.{bounds}
+use Rattle.dropping.specs.Listed.{bounds, Bounded}
 use Rattle.dropping.specs.Mapped.{Mapped}
 use Rattle.dropping.proofs.Sharing.{shared-past, away-apart, shared-other}
 
@@ -41,6 +41,14 @@ on-inside t d e = go (decLt d (length t))
     go (yes b) = b
     go (no b) = clash e (on-mark t d (sym (at-out t d (omega arith))))
 
+-- an entry, read
+module _ (t : List ℕ) (d : ℕ) (b : d < length t) where
+  pub read-on : (getD t d 0 ≡ mark → ⊥) → on t d ≡ true
+  read-on e = on-entry t d (λ z. e (sym (at-entry t d b) ∙ z))
+
+  pub read-off : getD t d 0 ≡ mark → on t d ≡ false
+  read-off e = on-mark t d (at-entry t d b ∙ e)
+
 -- a next gives way to the mark
 pub gone-mark : (c : Bool) (x y : ℕ) → c ≡ true → x ≡ cond c x y
 gone-mark c x y e = rw e
@@ -48,10 +56,23 @@ gone-mark c x y e = rw e
 pub gone-next : (c : Bool) (x y : ℕ) → c ≡ false → y ≡ cond c x y
 gone-next c x y e = rw e
 
--- a dart with neither side keeps its next
+-- a dart with neither side, or with no next, keeps what it has
 pub away-keeps : (s : List ℕ) (o : ℕ → ℕ) (a b x d : ℕ) → bounds s a b d ≡ false
     → cond (shared s o a b d) mark x ≡ x
 away-keeps s o a b x d e = rw (away-apart s o a b d e)
+
+off-keeps : (c : Bool) (x : ℕ) → x ≡ mark → cond c mark x ≡ x
+off-keeps true x e = sym e
+off-keeps false x e = refl
+
+pub unlisted-keeps : (s n : List ℕ) (o : ℕ → ℕ) (a b m f : ℕ) (t : List ℕ) (g : Bounded s n a b m f t) (d : ℕ)
+    → g .test d ≡ false → cond (shared s o a b d) mark (at n d) ≡ at n d
+unlisted-keeps s n o a b m f t g d e = go (bounds s a b d) (on n d) refl refl
+  where
+    go : (x y : Bool) → bounds s a b d ≡ x → on n d ≡ y → cond (shared s o a b d) mark (at n d) ≡ at n d
+    go false y p q = away-keeps s o a b (at n d) d p
+    go true true p q = clash (g .all d p q) e
+    go true false p q = off-keeps (shared s o a b d) (at n d) (off-mark n d q)
 
 pub unlink-here : (s : List ℕ) (o : ℕ → ℕ) (a b d x y r : ℕ) → x ≡ y → r ≡ cond (shared s o a b d) mark y
     → r ≡ cond (shared s o a b d) mark x
@@ -134,6 +155,43 @@ module _ (s n o : List ℕ) (a b : ℕ) (p : a < mark) (q : b < mark) (fit : len
   away-led d e =
       sym (led-past s l a b d (at n d) refl (away-apart s (at o) a b d e) (at n d)
       (sym (chase-still l gone (at n d) (away-next d e))))
+
+  -- nor does a dart with no next get one
+  off-led : (d : ℕ) → on n d ≡ false → led s l a b d ≡ at n d
+  off-led d e = go (gone d) refl
+    where
+      go : (c : Bool) → gone d ≡ c → led s l a b d ≡ at n d
+      go true h = sym (led-keeps s l a b d (at n d) refl h)
+      go false h =
+          sym (led-past s l a b d (at n d) refl h (at n d)
+          (rw (off-mark n d e) (sym (chase-still l gone mark mark-stays))))
+
+  -- so the list needs only the darts that have a next
+  module _ (j f : ℕ) (t : List ℕ) (g : Bounded s n a b j f t) where
+    pub unlisted-led : (d : ℕ) → g .test d ≡ false → led s l a b d ≡ at n d
+    unlisted-led d e = go (bounds s a b d) (on n d) refl refl
+      where
+        go : (x y : Bool) → bounds s a b d ≡ x → on n d ≡ y → led s l a b d ≡ at n d
+        go false y u v = away-led d u
+        go true true u v = clash (g .all d u v) e
+        go true false u v = off-led d v
+
+    pub led-bounded : (i : ℕ) (r : List ℕ) → r ≡ table i (led s l a b) → Bounded s r a b j f t
+    unfolding at
+    led-bounded i r e =
+        record {
+          test = g .test;
+          list = g .list;
+          all = λ d u v. g .all d u (go d v (on n d) refl);
+        }
+      where
+        off : (d : ℕ) → on n d ≡ false → Dec (d < i) → at (table i (led s l a b)) d ≡ mark
+        off d v (yes c) = getD-table i (led s l a b) d mark c ∙ off-led d v ∙ off-mark n d v
+        off d v (no c) = sym (at-out (table i (led s l a b)) d (rw length-table (omega arith)))
+
+        go : (d : ℕ) → on r d ≡ true → (c : Bool) → on n d ≡ c → on n d ≡ true
+        go d u true v = v
+        go d u false v = clash u (on-mark r d (rw e (off d v (decLt d i))))
 
   -- with the next of some darts led on already
   module _ (i : ℕ) (t : List ℕ) (r : Half (led s l a b) i n t) where
@@ -234,6 +292,15 @@ module _ (s n o : List ℕ) (a b : ℕ) (p : a < mark) (q : b < mark) (fit : len
             (λ d c.
             ap (λ z. cond z (at o d) mark)
             (ap (λ x. not (eqb x mark)) (getD-table (slots w h) left d mark c) ∙ left-on room d)))
+
+    -- a dart with no next gets none
+    pub off-left : (d : ℕ) → on n d ≡ false → on (removed w h l gone .next) d ≡ false
+    unfolding removed rest
+    off-left d e = on-mark _ d (go (decLt d (slots w h)))
+      where
+        go : Dec (d < slots w h) → at (removed w h l gone .next) d ≡ mark
+        go (yes c) = at-below w h rest (λ e. chase l gone (at n e)) d c ∙ rw e
+        go (no c) = at-past w h rest (λ e. chase l gone (at n e)) d (omega arith)
 
     -- a dart with neither side has the next that it had
     pub away-left : (d : ℕ) → bounds s a b d ≡ false → at (removed w h l gone .next) d ≡ at n d

@@ -1,5 +1,6 @@
 mod Dropping
 mod Leading
 mod Listing
-pub mod Sharing
+mod Narrowing
 mod Watching
+pub mod Sharing

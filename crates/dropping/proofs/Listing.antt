@@ -1,6 +1,6 @@
 -- Darts in a list.
 --   First q n d e   == e is the first slot from d on that passes the test q, or n where none of the n slots does
---   Listing q n i f t == the list of the slots from i on, in the table t of n entries; it starts at f
+--   Listing q n i f t == the list of the slots from i on
 use mathlib.Core.Path.{_≡_, refl, sym, _∙_, ap}
 use mathlib.Core.Bool.{Bool, true, false, _||_}
 use mathlib.Core.List.{List}
@@ -16,13 +16,7 @@ use Rattle.laws.proofs.Test.{clash}
 use Rattle.paper.specs.Joining.{at}
 use Rattle.table.proofs.Half.{Half, half-none, half-more, half-all, half-here}
 use Rattle.table.proofs.Entries.{at-entry}
-use Rattle.dropping.specs.Listed.{bounds, First, Listed}
-
-pub record Listing (q : ℕ → Bool) (n i f : ℕ) (t : List ℕ) : Type 0 where
-  pub first : First q n i f
-  pub steps : (d : ℕ) → i ≤ d → d < n → q d ≡ true → First q n (d + 1) (getD t d 0)
-  pub long : length t ≡ n
-  pub room : i ≤ n
+use Rattle.dropping.specs.Listed.{bounds, First, Listed, Listing}
 
 module _ (q : ℕ → Bool) (n : ℕ) where
   pub listing-none : (t : List ℕ) → length t ≡ n → Listing q n n n t

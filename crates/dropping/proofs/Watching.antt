@@ -1,7 +1,7 @@
 -- Step 2 after step 1: a dart can only hang where a dart went.
---   Watched n m f t == at each point that one dart alone leaves, by the next n, the list has a dart
+--   Watched n m f t == at each point that one dart alone leaves, by the next n, the list has a dart with no next
 use mathlib.Core.Path.{_≡_, refl, sym, _∙_, ap}
-use mathlib.Core.Bool.{Bool, true, false, not}
+use mathlib.Core.Bool.{Bool, true, false, not, _&&_}
 use mathlib.Core.List.{List}
 use Prim.Native.Nat.{ℕ, _+_, _/_, _≤_, _<_}
 use native.Mathlib.Decide.{decLt, ℕ-discrete}
@@ -20,11 +20,11 @@ use Rattle.paper.specs.Joining.{Links, at, on, shared, hanging, removed, prune,
 use Rattle.paper.proofs.Held.{mask-agree}
 use Rattle.removal.specs.Links.{links}
 use Rattle.removal.proofs.Pruning.{lone-some, lone-none, prune-stop}
-use Rattle.dropping.specs.Listed.{bounds, First, Listed, Watched}
+use Rattle.dropping.specs.Listed.{bounds, First, Listed, Bounded, Watched, bare}
 use Rattle.dropping.specs.Mapped.{Mapped}
-use Rattle.dropping.proofs.Leading.{away-left}
+use Rattle.dropping.proofs.Leading.{read-on, read-off, away-left, off-left}
 
--- After step 1 the list of the darts of a and b has a dart at each point that one dart alone leaves.
+-- After step 1 a list of the darts of a and b has, at each point that one dart alone leaves, a dart that went.
 module _ (w h : ℕ) (s n o : List ℕ) (a b : ℕ) (p : a < mark) (q : b < mark) (room : slots w h ≤ mark)
     (long : length s ≡ slots w h) (full : length n ≡ slots w h) (m : Mapped s n o) where
   abbrev left : List ℕ
@@ -34,28 +34,54 @@ module _ (w h : ℕ) (s n o : List ℕ) (a b : ℕ) (p : a < mark) (q : b < mark
   unfolding on
   away-kept d e = ap (λ x. not (eqb x mark)) (away-left s n o a b p q (omega arith) m w h full d e)
 
-  pub removed-near : (x : ℕ) → degree (mask (on left) x) ≡ 1
-      → (k : ℕ) × (k < 4) × (bounds s a b (dart x k) ≡ true)
-  removed-near x e = go (some 4 (λ k. bounds s a b (dart x k))) refl
+  -- whether a dart that leaves a point went
+  abbrev went : ℕ → ℕ → Bool
+  went x k = on n (dart x k) && not (on left (dart x k))
+
+  stayed : (d : ℕ) → (on n d && not (on left d)) ≡ false → on left d ≡ on n d
+  stayed d e = go (on n d) (on left d) refl refl e
     where
-      go : (c : Bool) → some 4 (λ k. bounds s a b (dart x k)) ≡ c
-          → (k : ℕ) × (k < 4) × (bounds s a b (dart x k) ≡ true)
-      go true z = some-found (λ k. bounds s a b (dart x k)) 4 z
-      go false z =
-          absurd (m .alone x
-          (ap degree (sym (mask-agree (on left) (on n) x
-          (λ k c. away-kept (dart x k) (some-none (λ k. bounds s a b (dart x k)) 4 z k c))))
-          ∙ e))
+      go : (x y : Bool) → on n d ≡ x → on left d ≡ y → (x && not y) ≡ false → y ≡ x
+      go true true u v z = refl
+      go true false u v z = clash refl z
+      go false y u v z = sym v ∙ off-left s n o a b p q (omega arith) m w h full d u
 
-  pub removed-watched : (f : ℕ) (t : List ℕ) (k : Links) → k ≡ removed w h (links n o) (shared s (at o) a b)
-      → Listed (bounds s a b) (slots w h) f t → Watched (k .next) (slots w h) f t
-  removed-watched f t k e g = rw e (record { test = bounds s a b; list = g; near = removed-near })
+  module _ (f : ℕ) (t : List ℕ) (g : Bounded s n a b (slots w h) f t) where
+    listed-here : (d : ℕ) → (on n d && not (on left d)) ≡ true → (g .test d ≡ true) × (on left d ≡ false)
+    listed-here d e = go (on n d) (on left d) (bounds s a b d) refl refl refl e
+      where
+        go : (x y z : Bool) → on n d ≡ x → on left d ≡ y → bounds s a b d ≡ z → (x && not y) ≡ true
+            → (g .test d ≡ true) × (on left d ≡ false)
+        go true false true u v z r = (g .all d z u, v)
+        go true false false u v z r = clash (away-kept d z ∙ u) v
+        go true true z u v c r = clash r refl
+        go false y z u v c r = clash r refl
 
--- The points of the list, one after another.
+    removed-near : (x : ℕ) → degree (mask (on left) x) ≡ 1
+        → (k : ℕ) × (k < 4) × (g .test (dart x k) ≡ true) × (on left (dart x k) ≡ false)
+    removed-near x e = go (some 4 (went x)) refl
+      where
+        go : (c : Bool) → some 4 (went x) ≡ c
+            → (k : ℕ) × (k < 4) × (g .test (dart x k) ≡ true) × (on left (dart x k) ≡ false)
+        go true z =
+            let (k, c, y) = some-found (went x) 4 z in
+            let (i, j) = listed-here (dart x k) y in
+            (k, c, i, j)
+        go false z =
+            absurd (m .alone x
+            (ap degree (sym (mask-agree (on left) (on n) x
+            (λ k c. stayed (dart x k) (some-none (went x) 4 z k c))))
+            ∙ e))
+
+    pub removed-watched : (k : Links) → k ≡ removed w h (links n o) (shared s (at o) a b)
+        → Watched (k .next) (slots w h) f t
+    removed-watched k e = rw e (record { test = g .test; list = g .list; near = removed-near })
+
+-- The darts of the list, one after another.
 pub record Looked (q : ℕ → Bool) (m : ℕ) (n : List ℕ) (d : ℕ) : Type 0 where
   pub here : d < m → q d ≡ true
   pub inside : d ≤ m
-  pub done : (k : ℕ) → k < d → q k ≡ true → eqb (degree (mask (on n) (k / 4))) 1 ≡ false
+  pub done : (k : ℕ) → k < d → q k ≡ true → bare n k ≡ false
 
 module _ (q : ℕ → Bool) (m f : ℕ) (t n : List ℕ) (g : Listed q m f t) where
   pub looked-none : Looked q m n f
@@ -66,8 +92,7 @@ module _ (q : ℕ → Bool) (m f : ℕ) (t n : List ℕ) (g : Listed q m f t) wh
         done = λ k b e. clash e (g .start .gap k (omega arith) b);
       }
 
-  pub looked-more : (d : ℕ) → Looked q m n d → d < m → eqb (degree (mask (on n) (d / 4))) 1 ≡ false
-      → Looked q m n (getD t d 0)
+  pub looked-more : (d : ℕ) → Looked q m n d → d < m → bare n d ≡ false → Looked q m n (getD t d 0)
   looked-more d r b e =
       let s = g .steps d b (r .here b) in
       record {
@@ -77,7 +102,7 @@ module _ (q : ℕ → Bool) (m f : ℕ) (t n : List ℕ) (g : Listed q m f t) wh
       }
     where
       go : First q m (d + 1) (getD t d 0) → (k : ℕ) → k < getD t d 0 → q k ≡ true → Dec (k < d) → Dec (k ≡ d)
-          → eqb (degree (mask (on n) (k / 4))) 1 ≡ false
+          → bare n k ≡ false
       go s k c z (yes x) y = r .done k x z
       go s k c z (no x) (yes y) = rw y e
       go s k c z (no x) (no y) = clash z (s .gap k (omega arith) c)
@@ -85,21 +110,35 @@ module _ (q : ℕ → Bool) (m f : ℕ) (t n : List ℕ) (g : Listed q m f t) wh
 module _ (w h f : ℕ) (t n o : List ℕ) (g : Watched n (slots w h) f t) where
   pub looked-all : (d : ℕ) → Looked (g .test) (slots w h) n d → slots w h ≤ d
       → false ≡ some (slots w h) (hanging (links n o))
-  unfolding point
+  unfolding point bare
   looked-all d r b = lone-none w h n o (λ p c. go p c (eqb (degree (mask (on n) p)) 1) refl)
     where
       go : (p : ℕ) → p < points w h → (x : Bool) → eqb (degree (mask (on n) p)) 1 ≡ x
           → eqb (degree (mask (on n) p)) 1 ≡ false
       go p c false e = e
       go p c true e =
-          let (k, l, z) = g .near p (eqb-true (degree (mask (on n) p)) 1 e) in
+          let (k, l, z, y) = g .near p (eqb-true (degree (mask (on n) p)) 1 e) in
           let u = dart-below w h p k c l in
-          rw (point-dart p k l) at (r .done (dart p k) (omega arith) z)
+          rw (y, point-dart p k l) at (r .done (dart p k) (omega arith) z)
 
-  pub found-hanging : (d : ℕ) → d < slots w h → true ≡ eqb (degree (mask (on n) (d / 4))) 1
-      → true ≡ some (slots w h) (hanging (links n o))
-  unfolding slots
-  found-hanging d b e = lone-some w h n o (d / 4) (omega arith) (sym e)
+  pub found-hanging : (d : ℕ) → d < slots w h → true ≡ bare n d → true ≡ some (slots w h) (hanging (links n o))
+  unfolding slots bare
+  found-hanging d b e = lone-some w h n o (d / 4) (omega arith) (go (on n d) (sym e))
+    where
+      go : (c : Bool) → (not c && eqb (degree (mask (on n) (d / 4))) 1) ≡ true
+          → eqb (degree (mask (on n) (d / 4))) 1 ≡ true
+      go false z = z
+      go true z = clash z refl
+
+-- a dart's next, read
+module _ (n : List ℕ) (d : ℕ) (b : d < length n) where
+  pub bare-not : (getD n d 0 ≡ mark → ⊥) → false ≡ bare n d
+  unfolding bare
+  bare-not e = rw (read-on n d b e)
+
+  pub bare-lone : (r : Bool) → getD n d 0 ≡ mark → r ≡ eqb (degree (mask (on n) (d / 4))) 1 → r ≡ bare n d
+  unfolding bare
+  bare-lone r e f = f ∙ rw (read-off n d b e)
 
 pub pruned-still : (w h : ℕ) (l : Links) → false ≡ some (slots w h) (hanging l) → l ≡ pruned w h l
 unfolding pruned prune slots points

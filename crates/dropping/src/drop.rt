@@ -10,11 +10,11 @@ ghost use Rattle.plane.specs.Size.{within};
 ghost use Rattle.plane.specs.Dart.{mark, slots, reversal};
 ghost use Rattle.removal.specs.Links.{links};
 ghost use Rattle.dropping.specs.Dropped.{dropped};
-ghost use Rattle.dropping.specs.Listed.{bounds, Listed};
+ghost use Rattle.dropping.specs.Listed.{Bounded};
 ghost use Rattle.dropping.specs.Mapped.{Mapped};
 
 // Steps 1 and 2 at a level: the darts with the sides a and b go, then hanging ends. The list has the darts with side a or
-// b. Taken and leaps are work.
+// b that have a next. Taken and leaps are work.
 pub fn drop_lines(
     width: u16,
     height: u16,
@@ -33,7 +33,7 @@ pub fn drop_lines(
         (length (now list) ≡ slots width height) × (length (now next) ≡ slots width height) ×
         (length (now other) ≡ slots width height) × (length (now taken) ≡ slots width height) ×
         (length (now leaps) ≡ slots width height) ×
-        Listed (bounds (now side) a b) (slots width height) first (now list) ×
+        Bounded (now side) (now next) a b (slots width height) first (now list) ×
         Mapped (now side) (now next) (now other)
         ⌝ }
     ensures { λ _. ⌜
@@ -64,7 +64,7 @@ pub fn drop_plain_lines(
         (length (now list) ≡ slots width height) × (length (now next) ≡ slots width height) ×
         (length (now back) ≡ slots width height) × (length (now taken) ≡ slots width height) ×
         (length (now leaps) ≡ slots width height) ×
-        Listed (bounds (now side) a b) (slots width height) first (now list) ×
+        Bounded (now side) (now next) a b (slots width height) first (now list) ×
         Mapped (now side) (now next) (table (slots width height) (reversal width))
         ⌝ }
     ensures { λ _. ⌜

@@ -1,22 +1,35 @@
+use plane::dart;
 use removal::prune;
 use rules::turn;
 ghost use mathlib.Core.Path.{_≡_};
 ghost use mathlib.Core.Bool.{true};
 ghost use mathlib.Core.List.{List};
-ghost use Prim.Native.Nat.{ℕ};
+ghost use Prim.Native.Nat.{ℕ, _+_, _<_};
 ghost use lib.ListN.{length};
 ghost use Rattle.laws.specs.Table.{some};
 ghost use Rattle.plane.specs.Size.{within};
-ghost use Rattle.plane.specs.Dart.{slots};
+ghost use Rattle.plane.specs.Dart.{mark, slots};
+ghost use Rattle.rules.specs.Turn.{kinding};
 ghost use Rattle.paper.specs.Joining.{hanging, pruned};
 ghost use Rattle.removal.specs.Links.{links};
-ghost use Rattle.dropping.specs.Listed.{Watched};
+ghost use Rattle.dropping.specs.Listed.{bare, Watched};
 
-// Whether some dart hangs, by the points of the darts of a list.
+// Whether a dart has no next and one dart alone leaves its point.
+fn is_bare(kinds: &[u16; 16], next: &[u16], dart: u16) -> bool
+    requires { ⌜ (now kinds ≡ kinding) × (dart < length (now next)) × (length (now next) + 3 < mark) ⌝ }
+    ensures { λ r. ⌜ r ≡ bare (now (next .entry)) dart ⌝ }
+{
+    if next[dart as usize] != dart::MARK {
+        return false;
+    }
+    ends::lone(kinds, next, dart / 4)
+}
+
+// Whether some dart hangs, by the points of the darts of a list that have no next.
 fn hangs(width: u16, height: u16, first: u16, list: &[u16], next: &[u16]) -> bool
     requires { ⌜
         (within width height ≡ true) × (length (now list) ≡ slots width height) ×
-        Watched (now next) (slots width height) first (now list)
+        (length (now next) ≡ slots width height) × Watched (now next) (slots width height) first (now list)
         ⌝ }
     ensures { λ r. ⌜
         ((other : List ℕ) → r ≡ some (slots width height) (hanging (links (now (next .entry)) other)))
@@ -26,7 +39,7 @@ fn hangs(width: u16, height: u16, first: u16, list: &[u16], next: &[u16]) -> boo
     let n = list.len() as u16;
     let mut dart = first;
     while dart < n {
-        if ends::lone(&kinds, next, dart / 4) {
+        if is_bare(&kinds, next, dart) {
             return true;
         }
         dart = list[dart as usize];

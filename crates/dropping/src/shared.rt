@@ -12,7 +12,7 @@ ghost use Rattle.paper.specs.Joining.{at, shared, chase, removed};
 ghost use Rattle.removal.specs.Links.{links};
 ghost use Rattle.removal.specs.Taken.{leaping};
 ghost use Rattle.dropping.specs.Dropped.{led};
-ghost use Rattle.dropping.specs.Listed.{bounds, Listed};
+ghost use Rattle.dropping.specs.Listed.{Bounded};
 ghost use Rattle.dropping.specs.Mapped.{Mapped};
 
 // Whether the other of a dart has a name for its side.
@@ -83,7 +83,7 @@ fn lead(side: &[u16], other: &[u16], a: u16, b: u16, first: u16, list: &[u16], n
     requires { ⌜
         (a < mark) × (b < mark) × (length (now next) ≤ mark) × (length (now side) ≡ length (now next)) ×
         (length (now list) ≡ length (now next)) ×
-        Listed (bounds (now side) a b) (length (now next)) first (now list) ×
+        Bounded (now side) (now next) a b (length (now next)) first (now list) ×
         Mapped (now side) (now next) (now other)
         ⌝ }
     ensures { λ _. ⌜
@@ -115,7 +115,7 @@ fn unlink(side: &[u16], other: &[u16], a: u16, b: u16, first: u16, list: &[u16],
     requires { ⌜
         (length (now next) ≤ mark) × (length (now side) ≡ length (now next)) ×
         (length (now list) ≡ length (now next)) ×
-        Listed (bounds (now side) a b) (length (now next)) first (now list)
+        Bounded (now side) (now next) a b (length (now next)) first (now list)
         ⌝ }
     ensures { λ _. ⌜
         now (next .exit) ≡
@@ -131,7 +131,7 @@ fn unlink(side: &[u16], other: &[u16], a: u16, b: u16, first: u16, list: &[u16],
     }
 }
 
-// Step 1 at any level: the darts with the sides a and b go. The list has the darts with side a or b.
+// Step 1 at any level: the darts with the sides a and b go. The list has the darts with side a or b that have a next.
 pub fn remove_shared(
     width: u16,
     height: u16,
@@ -147,7 +147,7 @@ pub fn remove_shared(
         (slots width height ≤ mark) × (a < mark) × (b < mark) × (length (now side) ≡ slots width height) ×
         (length (now list) ≡ slots width height) × (length (now next) ≡ slots width height) ×
         (length (now other) ≡ slots width height) ×
-        Listed (bounds (now side) a b) (slots width height) first (now list) ×
+        Bounded (now side) (now next) a b (slots width height) first (now list) ×
         Mapped (now side) (now next) (now other)
         ⌝ }
     ensures { λ _. ⌜

@@ -21,7 +21,7 @@ prune-requires c κs =
       k .1 .0 ∙ q .6,
       q .7,
       q .8,
-      removed-watched _ _ _ _ _ _ _ (q .1) (q .2) (within-fits _ _ (q .0)) (q .3) (q .5) (q .10) _ _ _ (r .ensures) (q .9),
+      removed-watched _ _ _ _ _ _ _ (q .1) (q .2) (within-fits _ _ (q .0)) (q .3) (q .5) (q .10) _ _ (q .9) _ (r .ensures),
     )
 
 same-length : tie.Need-same-length

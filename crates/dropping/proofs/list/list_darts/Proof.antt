@@ -2,8 +2,8 @@ use mathlib.Core.Path.{refl, sym, _∙_}
 use native.Mathlib.Omega.{arith}
 use Rattle.plane.specs.Dart.{mark}
 use lib.ListN.{length}
-use Rattle.dropping.specs.Listed.{bounds}
-use Rattle.dropping.proofs.Listing.{Listing, listing-none, listing-more, listing-less, listing-all, bounds-here}
+use Rattle.dropping.specs.Listed.{bounds, Listing}
+use Rattle.dropping.proofs.Listing.{listing-none, listing-more, listing-less, listing-all, bounds-here}
 use Rattle.dropping.proofs.list.list_darts.Statement.{statement}
 use Rattle.dropping.proofs.list.list_darts.Tie as tie
 

@@ -1,10 +1,10 @@
 use mathlib.Core.Path.{sym, _∙_}
 use Rattle.plane.specs.Dart.{mark, points}
-use Rattle.plane.proofs.Fit.{points-fit, darts-fit}
+use Rattle.plane.proofs.Fit.{points-fit}
 use Rattle.plane.specs.Dart.{slots}
 use Rattle.dropping.specs.Listed.{Watched}
 use Rattle.dropping.proofs.Watching.{Looked, looked-none, looked-more, looked-all, found-hanging}
-use Prim.Native.Nat.{_-_, _/_}
+use Prim.Native.Nat.{_-_}
 use native.Mathlib.Omega.{arith}
 use Rattle.dropping.proofs.near.hangs.Statement.{statement}
 use Rattle.dropping.proofs.near.hangs.Tie as tie
@@ -26,17 +26,17 @@ cast-n c = let q = c .before .before .before .pre in omega (arith, q .1, points-
 loop-holds : tie.Need-loop-holds Inv-loop μ-loop
 loop-holds c = λ g. looked-none _ _ _ _ _ (g .list)
 
-lone-requires : tie.Need-lone-requires Inv-loop μ-loop
-unfolding slots points
-lone-requires c κs =
+is-bare-requires : tie.Need-is-bare-requires Inv-loop μ-loop
+unfolding slots mark
+is-bare-requires c κs =
     let q = c .before .before .before .before .before .before .pre in
     let h = c .before .loop-test .taken in
-    (c .before .before .before .kinds .ensures, darts-fit _ _ (q .0) (c .before .before .loop .dart / 4) (omega (arith, q .1)) .0)
+    (c .before .before .before .kinds .ensures, omega (arith, q .1, q .2), omega (arith, q .2, points-fit _ _ (q .0)))
 
 returns : tie.Need-returns Inv-loop μ-loop
 returns c =
     let q = c .before .before .before .before .before .before .before .before .pre in
-    λ o. found-hanging _ _ _ _ _ o (q .2) _ (omega (arith, q .1, c .before .before .before .loop-test .taken)) (sym (c .if1 .taken) ∙ c .before .lone .ensures)
+    λ o. found-hanging _ _ _ _ _ o (q .3) _ (omega (arith, q .1, c .before .before .before .loop-test .taken)) (sym (c .if1 .taken) ∙ c .before .is-bare .ensures)
 
 cast-dart : tie.Need-cast-dart Inv-loop μ-loop
 cast-dart c = omega arith
@@ -52,20 +52,20 @@ loop-less : tie.Need-loop-less Inv-loop μ-loop
 loop-less c =
     let q = c .before .before .before .before .before .before .before .before .before .pre in
     let h = c .before .before .before .before .loop-test .taken in
-    let r = c .before .before .before .before .before .loop .inv (q .2) in
-    let f = q .2 .list .steps _ (omega (arith, q .1)) (r .here (omega (arith, q .1))) in
+    let r = c .before .before .before .before .before .loop .inv (q .3) in
+    let f = q .3 .list .steps _ (omega (arith, q .1)) (r .here (omega (arith, q .1))) in
     omega (arith, f .after, f .inside)
 
 loop-again : tie.Need-loop-again Inv-loop μ-loop
 loop-again c =
     let q = c .before .before .before .before .before .before .before .before .before .pre in
     let h = c .before .before .before .before .loop-test .taken in
-    λ g. looked-more _ _ _ _ _ (g .list) _ (c .before .before .before .before .before .loop .inv g) (omega (arith, q .1)) (sym (c .before .before .lone .ensures) ∙ c .before .if1 .left)
+    λ g. looked-more _ _ _ _ _ (g .list) _ (c .before .before .before .before .before .loop .inv g) (omega (arith, q .1)) (sym (c .before .before .is-bare .ensures) ∙ c .before .if1 .left)
 
 returns-2 : tie.Need-returns-2 Inv-loop μ-loop
 returns-2 c =
     let q = c .before .before .before .before .before .pre in
-    λ o. looked-all _ _ _ _ _ o (q .2) _ (c .before .loop .inv (q .2)) (omega (arith, q .1, c .loop-test .left))
+    λ o. looked-all _ _ _ _ _ o (q .3) _ (c .before .loop .inv (q .3)) (omega (arith, q .1, c .loop-test .left))
 
 pub hangs-spec : {M : Type 1} → statement M
 hangs-spec =
@@ -76,7 +76,7 @@ hangs-spec =
     kinds-requires
     cast-n
     loop-holds
-    lone-requires
+    is-bare-requires
     returns
     cast-dart
     mul-dart

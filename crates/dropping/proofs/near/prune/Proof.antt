@@ -4,7 +4,7 @@ use Rattle.dropping.proofs.near.prune.Statement.{statement}
 use Rattle.dropping.proofs.near.prune.Tie as tie
 
 hangs-requires : tie.Need-hangs-requires
-hangs-requires c κs = let q = c .before .before .before .before .before .before .pre in (q .0, q .1, q .6)
+hangs-requires c κs = let q = c .before .before .before .before .before .before .pre in (q .0, q .1, q .2, q .6)
 
 prune-requires : tie.Need-prune-requires
 prune-requires c κs = let q = c .before .before .before .before .before .before .before .before .before .before .before .before .pre in (q .0, q .2, q .3, q .4, q .5)

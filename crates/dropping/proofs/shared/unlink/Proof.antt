@@ -1,16 +1,19 @@
-use Rattle.dropping.proofs.Leading.{away-keeps, unlink-here}
+use Rattle.dropping.proofs.Leading.{unlisted-keeps, unlink-here}
 use mathlib.Core.Bool.{cond}
 use Prim.Native.Nat.{_-_}
 use native.Mathlib.Omega.{arith}
+use lib.ListN.{length}
 use Rattle.plane.specs.Dart.{mark}
 use Rattle.paper.specs.Joining.{at, shared}
-use Rattle.dropping.specs.Listed.{bounds}
+use Rattle.dropping.specs.Listed.{Bounded}
 use Rattle.dropping.proofs.Listing.{Treated, treated-none, treated-more, treated-all, treated-here}
 use Rattle.dropping.proofs.shared.unlink.Statement.{statement}
 use Rattle.dropping.proofs.shared.unlink.Tie as tie
 
 abbrev Inv-loop : tie.InvT-loop
-Inv-loop side other a b first list next₀ n dart₀ next dart = Treated (λ d. cond (shared side (at other) a b d) mark (at next₀ d)) (bounds side a b) dart next₀ next
+Inv-loop side other a b first list next₀ n dart₀ next dart =
+    (g : Bounded side next₀ a b (length next₀) first list)
+    → Treated (λ d. cond (shared side (at other) a b d) mark (at next₀ d)) (g .test) dart next₀ next
 
 abbrev μ-loop : tie.MeasureT-loop
 μ-loop side other a b first list next₀ n dart₀ next dart = n - dart
@@ -20,7 +23,7 @@ unfolding mark
 cast-n c = omega (arith, c .before .before .before .before .pre .0)
 
 loop-holds : tie.Need-loop-holds Inv-loop μ-loop
-loop-holds c = treated-none _ _ _ (λ d b e. away-keeps _ _ _ _ _ _ e) _ _ (c .before .before .before .before .pre .3)
+loop-holds c = λ g. treated-none _ _ _ (λ d b e. unlisted-keeps _ _ _ _ _ _ _ _ g d e) _ _ (g .list)
 
 cast-next-left : tie.Need-cast-next-left Inv-loop μ-loop
 cast-next-left c = omega arith
@@ -30,7 +33,9 @@ unfolding mark
 mul-next-left c = omega (arith, c .before .before .before .before .before .before .pre .0, c .loop-test .taken)
 
 slice-read-next-left : tie.Need-slice-read-next-left Inv-loop μ-loop
-slice-read-next-left c = omega (arith, c .before .before .loop .inv .half .long, c .before .loop-test .taken)
+slice-read-next-left c =
+    let q = c .before .before .before .before .before .before .before .pre in
+    omega (arith, c .before .before .loop .inv (q .3) .half .long, c .before .loop-test .taken)
 
 next-left-requires : tie.Need-next-left-requires Inv-loop μ-loop
 next-left-requires c κs = tt
@@ -43,7 +48,9 @@ unfolding mark
 mul-next c = omega (arith, c .before .before .before .before .before .before .before .before .pre .0, c .before .before .loop-test .taken)
 
 slice-write-next : tie.Need-slice-write-next Inv-loop μ-loop
-slice-write-next c = omega (arith, c .before .before .before .loop .inv .half .long, c .before .before .loop-test .taken)
+slice-write-next c =
+    let q = c .before .before .before .before .before .before .before .before .pre in
+    omega (arith, c .before .before .before .loop .inv (q .3) .half .long, c .before .before .loop-test .taken)
 
 cast-dart : tie.Need-cast-dart Inv-loop μ-loop
 cast-dart c = omega arith
@@ -59,22 +66,24 @@ loop-less : tie.Need-loop-less Inv-loop μ-loop
 loop-less c =
     let q = c .before .before .before .before .before .before .before .before .before .pre in
     let h = c .before .before .before .loop-test .taken in
-    let r = c .before .before .before .before .loop .inv in
-    let f = q .3 .steps _ h (r .here h) in omega (arith, f .after)
+    let r = c .before .before .before .before .loop .inv (q .3) in
+    let f = q .3 .list .steps _ h (r .here h) in omega (arith, f .after)
 
 loop-again : tie.Need-loop-again Inv-loop μ-loop
 loop-again c =
-    let q = c .before .before .before .before .before .before .before .before .before .pre in
     let h = c .before .before .before .loop-test .taken in
-    let r = c .before .before .before .before .loop .inv in
-    treated-more _ _ _ (λ d b e. away-keeps _ _ _ _ _ _ e) _ _ (q .3) _ _ _ r h
-    (unlink-here _ _ _ _ _ _ _ _ (treated-here _ _ _ (λ d b e. away-keeps _ _ _ _ _ _ e) _ _ r h) (c .before .next-left .ensures))
+    λ g.
+    let r = c .before .before .before .before .loop .inv g in
+    treated-more _ _ _ (λ d b e. unlisted-keeps _ _ _ _ _ _ _ _ g d e) _ _ (g .list) _ _ _ r h
+    (unlink-here _ _ _ _ _ _ _ _ (treated-here _ _ _ (λ d b e. unlisted-keeps _ _ _ _ _ _ _ _ g d e) _ _ r h) (c .before .next-left .ensures))
 
 same-length : tie.Need-same-length Inv-loop μ-loop
-same-length c = c .before .loop .inv .half .long
+same-length c = c .before .loop .inv (c .before .before .before .before .before .before .pre .3) .half .long
 
 returns : tie.Need-returns Inv-loop μ-loop
-returns c = treated-all _ _ _ (λ d b e. away-keeps _ _ _ _ _ _ e) _ _ (c .before .loop .inv) (c .loop-test .left)
+returns c =
+    let g = c .before .before .before .before .before .before .pre .3 in
+    treated-all _ _ _ (λ d b e. unlisted-keeps _ _ _ _ _ _ _ _ g d e) _ _ (c .before .loop .inv g) (c .loop-test .left)
 
 pub unlink-spec : {M : Type 1} → statement M
 unlink-spec =
