@@ -11,9 +11,9 @@ use lib.ListN.{length}
 use borrow.Author.Tests.{eq-eqb, ne-eqb, eqb-true}
 use Rattle.laws.proofs.Test.{clash}
 use Rattle.plane.specs.Dart.{mark}
-use Rattle.paper.specs.Joining.{at, between, shared}
+use Rattle.paper.specs.Joining.{at, on, between, shared}
 use Rattle.table.proofs.Entries.{at-out}
-use Rattle.dropping.specs.Listed.{bounds}
+use Rattle.dropping.specs.Listed.{bounds, Listed, Bounded}
 
 or-same : (c : Bool) → (c || c) ≡ c
 or-same true = refl
@@ -80,3 +80,11 @@ between-swap a b x y =
 pub shared-other : (s : List ℕ) (o : ℕ → ℕ) (a b d : ℕ) → o (o d) ≡ d → shared s o a b (o d) ≡ shared s o a b d
 unfolding shared
 shared-other s o a b d e = rw e (between-swap a b (at s (o d)) (at s d))
+
+-- a list of the darts of a and b, and one of those that have a next
+module _ (s n : List ℕ) (a b m f : ℕ) (t : List ℕ) where
+  pub bounded-all : Listed (bounds s a b) m f t → Bounded s n a b m f t
+  bounded-all l = record { test = bounds s a b; list = l; all = λ d e h. e }
+
+  pub bounded-on : Listed (λ d. bounds s a b d && on n d) m f t → Bounded s n a b m f t
+  bounded-on l = record { test = λ d. bounds s a b d && on n d; list = l; all = λ d e h. rw (e, h) }

@@ -98,13 +98,14 @@ pub fn apply(
         work_b,
         work_c,
     );
+    let first3 = list::narrow(next3, first, work_d);
     drop::drop_lines(
         width,
         height,
         a,
         b,
         side1,
-        first,
+        first3,
         work_d,
         next3,
         other3,
