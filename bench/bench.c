@@ -173,30 +173,65 @@ static void random_sheets(int n, int labels) {
     for (int c = 0; c < CELLS; c++) sheets[c] = (u16)random_below(labels);
 }
 
-static void different_sheet(void) {
-    set_size(LIMIT);
-    for (int c = 0; c < CELLS; c++) sheets[c] = (u16)c;
+static void different_sheets(int n) {
+    set_size(n);
+    for (int c = 0; c < CELLS; c++) sheets[c] = (u16)(c % cells);
 }
 
-static void nested_sheet(void) {
-    set_size(LIMIT);
+static void nested_sheets(int n) {
+    set_size(n);
     for (int c = 0; c < CELLS; c++) {
-        int x = c % LIMIT, y = c / LIMIT;
-        int across = x < LIMIT - 1 - x ? x : LIMIT - 1 - x, down = y < LIMIT - 1 - y ? y : LIMIT - 1 - y;
+        int x = c % cells % n, y = c % cells / n;
+        int across = x < n - 1 - x ? x : n - 1 - x, down = y < n - 1 - y ? y : n - 1 - y;
         sheets[c] = (u16)(across < down ? across : down);
     }
 }
 
-static double most_draw, most_join;
+/* The kinds of sheets that are measured. */
+enum { KINDS = 5 };
+static const char *const names[KINDS] = {"2 random labels", "4 random labels", "16 random labels", "all different",
+                                         "nested squares"};
 
-static void row(const char *name) {
+static void make_sheets(int kind, int n) {
+    static const int labels[3] = {2, 4, 16};
+    if (kind < 3)
+        random_sheets(n, labels[kind]);
+    else if (kind == 3)
+        different_sheets(n);
+    else
+        nested_sheets(n);
+}
+
+static double most_draw, most_join, most_core;
+
+/* The join's times, in drawings: with its judging and without. */
+static void count_join(struct times our) {
+    if (our.join / our.draw > most_join) most_join = our.join / our.draw;
+    if ((our.join - our.check) / our.draw > most_core) most_core = (our.join - our.check) / our.draw;
+}
+
+static void row(int kind) {
     struct times our, plain;
+    make_sheets(kind, LIMIT);
     measure(&our, &plain);
-    double draw = our.draw / plain.draw, join = our.join / our.draw;
-    printf("| %s | %.2f | %.2f | %.2f | %.2f | %.2f | %.2f |\n", name, draw, our.check / plain.check, our.join / plain.join,
-           our.check / our.draw, join, (our.join - our.check) / our.draw);
+    double draw = our.draw / plain.draw;
+    printf("| %s | %.2f | %.2f | %.2f | %.2f | %.2f | %.2f |\n", names[kind], draw, our.check / plain.check,
+           our.join / plain.join, our.check / our.draw, our.join / our.draw, (our.join - our.check) / our.draw);
     if (draw > most_draw) most_draw = draw;
-    if (join > most_join) most_join = join;
+    count_join(our);
+}
+
+static void small_row(int kind) {
+    static const int sizes[4] = {4, 9, 18, 36};
+    printf("| %s |", names[kind]);
+    for (int k = 0; k < 4; k++) {
+        struct times our, plain;
+        make_sheets(kind, sizes[k]);
+        measure(&our, &plain);
+        printf(" %.2f, %.2f |", our.join / our.draw, (our.join - our.check) / our.draw);
+        count_join(our);
+    }
+    printf("\n");
 }
 
 static void growth(void) {
@@ -217,18 +252,12 @@ static void growth(void) {
 int main(void) {
     printf("| sheet, 72 by 72 | drawing / plain | judging / plain | join / plain | judging / drawing | join / drawing "
            "| join without its judging / drawing |\n|---|---|---|---|---|---|---|\n");
-    random_sheets(LIMIT, 2);
-    row("2 random labels");
-    random_sheets(LIMIT, 4);
-    row("4 random labels");
-    random_sheets(LIMIT, 16);
-    row("16 random labels");
-    different_sheet();
-    row("all different");
-    nested_sheet();
-    row("nested squares");
+    for (int kind = 0; kind < KINDS; kind++) row(kind);
+    printf("\n| sheet; join with its judging, and without, in drawings | 4 by 4 | 9 by 9 | 18 by 18 | 36 by 36 |\n"
+           "|---|---|---|---|---|\n");
+    for (int kind = 0; kind < KINDS; kind++) small_row(kind);
     printf("\nA drawing takes at most %.2f times plain C (target 1.3); a join, its judging included, at most %.2f drawings "
-           "(target 3).\n\n", most_draw, most_join);
+           "(target 3), without its judging %.2f (target 1).\n\n", most_draw, most_join, most_core);
     printf("| 4 random labels | drawing, cost of a cell against 72 by 72 | judging | join |\n|---|---|---|---|\n");
     growth();
     return 0;
