@@ -15,7 +15,7 @@ use Rattle.paper.specs.Enclosure.{depth, holes}
 use Rattle.paper.specs.Drawing.{Tables}
 use Rattle.paper.specs.Refusal.{outcome, sized, stated, five, used, countRefusal}
 use Rattle.enclosure.specs.Tree.{known, counts}
-use Rattle.drawing.proofs.Stated.{and-end}
+use Rattle.parts.proofs.Stated.{and-end}
 use Rattle.verdict.specs.declared.judge.Verdict.{Verdict}
 use Rattle.verdict.specs.Answer.{answer, answered}
 use Rattle.verdict.specs.Check.{checkRefusal, checked}

@@ -2,7 +2,7 @@ use mathlib.Core.Path.{sym, _∙_}
 use native.Mathlib.Omega.{arith}
 use Rattle.plane.proofs.Fit.{cells-fit}
 use Rattle.table.proofs.Front.{front-in, front-long, front-back, back-in, back-long}
-use Rattle.drawing.proofs.Whole.{tops-rising}
+use Rattle.parts.proofs.Whole.{tops-rising}
 use Rattle.agreement.proofs.Judged.{names-part, curves-no, curves-yes}
 use borrow.Author.Needs.{needs}
 use Rattle.agreement.proofs.agree.curves_agree.Statement.{statement}
