@@ -2,15 +2,14 @@ use mathlib.Core.Path.{refl, _∙_}
 use Rattle.table.proofs.Cleared.{cleared-same}
 use Rattle.parts.proofs.Whole.{drawing-whole, tops-rising}
 use Rattle.drawing.proofs.Refusing.{refused, fits, sheet-long, long, done}
-use borrow.Author.Needs.{needs}
 use Rattle.drawing.proofs.draw.draw.Statement.{statement}
 use Rattle.drawing.proofs.draw.draw.Tie as tie
 
 refusal-requires : tie.Need-refusal-requires
-refusal-requires c κs = search needs
+refusal-requires c κs = tt
 
 enum-told : tie.Need-enum-told
-enum-told c = search needs
+enum-told c = c .match .keys1
 
 returns : tie.Need-returns
 returns c = refused _ _ _ _ _ _ _ _ _ _ _ _ _ (c .before .refusal .ensures) (c .match .keys2)
@@ -31,7 +30,7 @@ draw-parents-requires : tie.Need-draw-parents-requires
 draw-parents-requires c κs = let l = long _ _ _ _ _ _ _ _ _ _ _ _ _ (c .before .before .before .before .before .before .before .before .before .before .before .before .before .before .before .before .before .before .before .before .before .before .before .before .before .before .before .before .before .before .before .before .before .before .before .before .before .before .before .before .before .refusal .ensures) (c .before .before .before .before .before .before .before .before .before .before .before .before .before .before .before .before .before .before .before .before .before .before .before .before .before .before .before .before .before .before .before .before .before .before .before .before .before .before .before .enum-told .given .1) in (fits _ _ _ _ _ _ _ _ _ _ _ _ _ (c .before .before .before .before .before .before .before .before .before .before .before .before .before .before .before .before .before .before .before .before .before .before .before .before .before .before .before .before .before .before .before .before .before .before .before .before .before .before .before .before .before .refusal .ensures) (c .before .before .before .before .before .before .before .before .before .before .before .before .before .before .before .before .before .before .before .before .before .before .before .before .before .before .before .before .before .before .before .before .before .before .before .before .before .before .before .enum-told .given .1), (c .before .before .before .before .before .before .before .before .before .before .before .before .before .before .before .before .keep-points .kept .1 .1 .1 .1 .0) ∙ (c .before .before .before .before .before .before .before .before .before .before .before .before .before .before .before .before .before .before .before .before .before .before .before .before .before .before .before .before .before .before .before .before .before .before .before .before .name-cells .kept .1 .1 .1 .1 .0) ∙ l .work .1, tops-rising _ _ _ _ _ _ (c .before .before .before .before .before .before .before .before .before .before .before .before .before .before .before .before .keep-points .ensures), l .names)
 
 clear-four-requires : tie.Need-clear-four-requires
-clear-four-requires c κs = search needs
+clear-four-requires c κs = tt
 
 same-length : tie.Need-same-length
 same-length c = (c .before .before .before .before .before .before .before .before .before .before .before .before .before .before .before .before .before .before .before .before .before .before .before .before .before .before .before .before .before .before .before .before .before .before .before .before .before .before .before .before .before .before .before .draw-lines .kept .1 .1 .1 .1 .0)

@@ -2,7 +2,6 @@ use mathlib.Core.Path.{refl, _∙_}
 use Rattle.paper.specs.Refusal.{adjoin}
 use Rattle.verdict.proofs.Refusing.{accepted-within, accepted-done}
 use Rattle.join.proofs.Answering.{asked-stops, asked-ready, asked-joined}
-use borrow.Author.Needs.{needs}
 use Rattle.join.proofs.regions.join.Statement.{statement}
 use Rattle.join.proofs.regions.join.Tie as tie
 
@@ -13,7 +12,7 @@ asked-requires : tie.Need-asked-requires
 asked-requires c κs = λ z. accepted-within _ _ _ _ _ (accepted-done _ _ _ _ _ _ z (c .before .before .before .before .before .before .before .before .before .before .check .ensures))
 
 enum-told : tie.Need-enum-told
-enum-told c = search needs
+enum-told c = c .match .keys1
 
 same-length : tie.Need-same-length
 same-length c = refl

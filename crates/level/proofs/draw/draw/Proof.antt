@@ -1,13 +1,12 @@
 use Rattle.level.proofs.Refused.{all-fit, refused, done}
-use borrow.Author.Needs.{needs}
 use Rattle.level.proofs.draw.draw.Statement.{statement}
 use Rattle.level.proofs.draw.draw.Tie as tie
 
 refusal-requires : tie.Need-refusal-requires
-refusal-requires c κs = search needs
+refusal-requires c κs = tt
 
 enum-told : tie.Need-enum-told
-enum-told c = search needs
+enum-told c = c .match .keys1
 
 returns : tie.Need-returns
 returns c = refused _ _ _ _ _ _ _ _ _ _ _ _ (c .before .refusal .ensures) (c .match .keys2)

@@ -1,15 +1,14 @@
 use mathlib.Core.Path.{_∙_}
 use Rattle.table.proofs.Cleared.{cleared-same}
 use Rattle.verdict.proofs.Refusing.{check-refused, check-ready, check-none, check-done}
-use borrow.Author.Needs.{needs}
 use Rattle.verdict.proofs.judge.check.Statement.{statement}
 use Rattle.verdict.proofs.judge.check.Tie as tie
 
 refusal-requires : tie.Need-refusal-requires
-refusal-requires c κs = search needs
+refusal-requires c κs = tt
 
 enum-told : tie.Need-enum-told
-enum-told c = search needs
+enum-told c = c .match .keys1
 
 returns : tie.Need-returns
 returns c = check-refused _ _ _ _ _ _ _ _ _ _ _ _ (c .before .refusal .ensures) (c .match .keys2)
@@ -18,7 +17,7 @@ judge-requires : tie.Need-judge-requires
 judge-requires c κs = check-ready _ _ _ _ _ _ _ _ _ _ _ _ (c .before .before .before .before .before .before .refusal .ensures) (c .before .before .before .before .enum-told .given .1)
 
 clear-four-requires : tie.Need-clear-four-requires
-clear-four-requires c κs = search needs
+clear-four-requires c κs = tt
 
 same-length : tie.Need-same-length
 same-length c = (c .before .before .before .before .before .before .before .before .before .clear-four .kept .0) ∙ (c .before .before .before .before .before .before .before .before .before .before .before .before .before .before .before .before .before .before .before .before .before .before .judge .kept .1 .1 .1 .1 .1 .1 .1 .0)
