@@ -1,6 +1,6 @@
 -- What the whole drawing answers, one test after the other, and the outcome that it tells.
 --   refusal w h n l == the number of the first refusal, 0 for none
-use mathlib.Core.Path.{_≡_, refl, sym, ap, _∙_}
+use mathlib.Core.Path.{_≡_, refl, ap, _∙_}
 use mathlib.Core.Bool.{Bool, true, false, cond, not}
 use mathlib.Core.List.{List, [], _∷_}
 use mathlib.Core.Logic.{_≢_, ⊎-elim}

@@ -3,7 +3,7 @@
 --   refusal w h l n k == the number of the first refusal, 0 for none
 --   levelled ..     == the outcome of a level drawing
 --   told r ts ws    == the outcome that the answer r tells
-use mathlib.Core.Path.{_≡_, refl, ap, _∙_}
+use mathlib.Core.Path.{_≡_, refl}
 use mathlib.Core.Bool.{Bool, true, false, cond, not, _&&_}
 use mathlib.Core.List.{List, [], _∷_}
 use mathlib.Core.Logic.{_≢_, ⊎-elim}

@@ -13,23 +13,22 @@ use borrow.Author.Tests.{eqb-true, lt-ltb}
 use Rattle.laws.specs.Table.{table, number}
 use Rattle.laws.proofs.Table.{getD-table, getD-table-past, table-agree, some-agree}
 use Rattle.laws.proofs.Walk.{run-along}
-use Rattle.plane.specs.Dart.{mark, points, slots, dart, point, direction, far, turned, reversal, line}
+use Rattle.plane.specs.Dart.{mark, points, slots, dart, point, direction, far, turned, reversal}
 use Rattle.plane.specs.Point.{bits, half, has, right, degree, inline, present}
 use Rattle.rules.specs.Turn.{turnOf, without, impossible, kind, becomes, becomesOf}
-use Rattle.plane.proofs.Darts.{dart-own, direction-below, line-reversal}
+use Rattle.plane.proofs.Darts.{dart-own, direction-below}
 use Rattle.plane.proofs.Reach.{line-far}
 use Rattle.rules.proofs.Turns.{each, each-at}
-use Rattle.paper.specs.Name.{names, cells}
-use Rattle.paper.specs.Level.{Level, side, border, mask, next, last, along, plain, big, bent, tops, anchor, kept2, kept3, among, level, marked}
+use Rattle.paper.specs.Name.{cells}
+use Rattle.paper.specs.Level.{Level, side, border, mask, next, last, along, big, bent, tops, anchor, kept2, kept3, among, marked}
 use Rattle.paper.specs.Joining.{at, on}
-use Rattle.paper.specs.Refusal.{levelTables}
 use Rattle.paper.proofs.Next.{Lines, mask-below, has-mask, point-next}
-use Rattle.paper.proofs.Sheet.{border-lines, mask-present}
+use Rattle.paper.proofs.Sheet.{mask-present}
 use Rattle.paper.proofs.Piece.{length-tops}
-use Rattle.paper.proofs.Marks.{length-marked, at-held, on-marked, marked-same, marked-agree, names-side-small, next-stays, last-stays, lines-inside, along-on, next-small, along-next-small}
+use Rattle.paper.proofs.Marks.{length-marked, at-held, on-marked, marked-same, marked-agree, next-stays, last-stays, lines-inside, along-on, next-small, along-next-small}
 use Rattle.framing.specs.Frame.{framed}
 use Rattle.framing.proofs.Surround.{cells-framed}
-use Rattle.masks.specs.Mask.{around, masked, ruled}
+use Rattle.masks.specs.Mask.{around, masked}
 use Rattle.lines.specs.Line.{lined, onward, nexts, others, beheld, sides}
 use Rattle.keeping.specs.Keep.{kindAt, large, bends, stands, anchored, keeps}
 use Rattle.curves.specs.Link.{ahead, keptAt, starts, lastOf, back, alongNext, alongOther, alongSide}
