@@ -26,10 +26,10 @@ use Rattle.lines.specs.Line.{nexts}
 use Rattle.sides.specs.Side.{sides}
 use Rattle.keeping.specs.Keep.{keeps}
 use Rattle.curves.specs.Link.{alongNext, alongOther}
-use Rattle.drawing.specs.Given.{tables}
-use Rattle.drawing.specs.Parts.{Lined, Kept, Curved, roundOf, masksOf, linesAgree, curvesAgree}
+use Rattle.parts.specs.Given.{tables}
+use Rattle.parts.specs.Parts.{Lined, Kept, Curved, roundOf, masksOf, linesAgree, curvesAgree}
 use Rattle.framing.specs.Frame.{surround}
-use Rattle.drawing.proofs.Whole.{line-next, line-side, curve-next, curve-other, parents-whole}
+use Rattle.parts.proofs.Whole.{line-next, line-side, curve-next, curve-other, parents-whole}
 
 pub names-part : (w h : ℕ) → w * h + 1 ≤ slots w h
 names-part w h = omega (arith, cells-slots w h)

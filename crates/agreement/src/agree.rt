@@ -1,5 +1,5 @@
 use crate::labels;
-use drawing::draw;
+use parts::draw;
 use region::names;
 use table::entry;
 ghost use mathlib.Core.Path.{_≡_};
@@ -8,8 +8,8 @@ ghost use lib.ListN.{length, take};
 ghost use Rattle.plane.specs.Dart.{points, slots};
 ghost use Rattle.plane.specs.Size.{within};
 ghost use Rattle.paper.specs.Drawing.{alike};
-ghost use Rattle.drawing.specs.Given.{tables};
-ghost use Rattle.drawing.specs.Parts.{masksOf, linesAgree, curvesAgree};
+ghost use Rattle.parts.specs.Given.{tables};
+ghost use Rattle.parts.specs.Parts.{masksOf, linesAgree, curvesAgree};
 
 // Whether next and side of level 1 are those of the sheet whose labels the sides tell. The masks of the points come out
 // at the front of a work table.

@@ -6,7 +6,7 @@ use verdict::judge::Verdict;
 ghost use mathlib.Core.Path.{_≡_};
 ghost use mathlib.Core.List.{[], _∷_, _++_};
 ghost use Rattle.paper.specs.Refusal.{five, deepened, holed};
-ghost use Rattle.drawing.specs.Given.{tables, works};
+ghost use Rattle.parts.specs.Given.{tables, works};
 ghost use Rattle.counts.specs.Tally.{tallied};
 ghost use Rattle.verdict.specs.Answer.{answered};
 ghost use Rattle.counting.specs.Answer.{counted};

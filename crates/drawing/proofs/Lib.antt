@@ -1,4 +1,1 @@
-pub mod Part
-pub mod Whole
-pub mod Stated
 pub mod Refusing

@@ -1,3 +1,2 @@
 // The whole drawing of a sheet: its five tables.
 pub mod draw;
-pub mod lengths;

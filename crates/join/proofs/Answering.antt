@@ -4,12 +4,12 @@
 use mathlib.Core.Path.{_≡_, refl, sym, ap, ap₂, _∙_}
 use mathlib.Core.Bool.{Bool, true, false, cond, not, _&&_, _||_}
 use mathlib.Core.List.{List, [], _∷_}
-use mathlib.Core.Logic.{⊎-elim, _≢_}
+use mathlib.Core.Logic.{inl, inr, _≢_}
 use Prim.Native.Nat.{ℕ}
 use native.Mathlib.Omega.{arith}
 use lib.Dec.{eqb}
 use lib.ListN.{length, replicate, length-replicate}
-use borrow.Author.Tests.{eqb-false, not-false}
+use borrow.Author.Tests.{eqb-true, eqb-false, not-false}
 use types.Run.{OneOf}
 use denote.Enum.Declared.{tagOf}
 use Rattle.laws.proofs.Test.{and-left, and-right}
@@ -27,12 +27,12 @@ use Rattle.verdict.proofs.Refusing.{accepted-done}
 use Rattle.verdict.proofs.Refusing.{tag-number, refused-stops}
 use Rattle.verdict.proofs.Refusing.{accepted-within, accepted-stated, accepted-judged, accepted-work, accepted-on}
 use Rattle.pairs.specs.declared.answer.Joined.{Joined}
-use Rattle.pairs.specs.Answer.{number, refused, named}
+use Rattle.pairs.specs.Answer.{number, refused, named, asked}
+use Rattle.pairs.proofs.Asking.{Other, other-not-done, zero-done, done-asked}
 use Rattle.joining.specs.Apply.{Ready}
 use Rattle.join.specs.Faithful.{Faithful}
 use Rattle.joining.proofs.Readiness.{drawn-ready}
 use Rattle.join.proofs.Afresh.{joined-faithful}
-use Rattle.pairs.proofs.answer.Joined.{the-type}
 
 -- Work tables that are cleared are as long as they were, and clearing them again changes nothing.
 cleared-twice : (ws : List (List ℕ)) → cleared (cleared ws) ≡ cleared ws
@@ -75,29 +75,6 @@ or-neither : (p q : Bool) → (p || q) ≡ false → (p ≡ false) × (q ≡ fal
 or-neither true q e = absurd (let z : _≡_ {A = ℕ} 0 1 = cc in omega arith)
 or-neither false q e = (refl, e)
 
--- an answer of another case is not done
-abbrev Other : Joined → Type 0
-Other o = OneOf (1 ∷ 2 ∷ 3 ∷ 4 ∷ 5 ∷ 6 ∷ 7 ∷ []) (tagOf the-type o)
-
-other-not-done : (o : Joined) → Other o → o ≢ Joined.Done
-other-not-done o p e =
-    let q : Other Joined.Done = rw e at p in
-    ⊎-elim (λ z. omega arith)
-    (⊎-elim (λ z. omega arith)
-    (⊎-elim (λ z. omega arith)
-    (⊎-elim (λ z. omega arith) (⊎-elim (λ z. omega arith) (⊎-elim (λ z. omega arith) (λ z. omega arith)))))) q
-
-zero-done : (o : Joined) → number o ≡ 0 → o ≡ Joined.Done
-unfolding number
-zero-done Joined.Done e = refl
-zero-done Joined.Size e = absurd (omega arith)
-zero-done Joined.Tables e = absurd (omega arith)
-zero-done Joined.Drawing e = absurd (omega arith)
-zero-done Joined.Outside e = absurd (omega arith)
-zero-done Joined.Equal e = absurd (omega arith)
-zero-done Joined.Name e = absurd (omega arith)
-zero-done Joined.Apart e = absurd (omega arith)
-
 -- the answer after a check has the number of its verdict
 same-number : (v : Verdict) → number (refused v) ≡ answer v
 unfolding number refused
@@ -121,7 +98,7 @@ module _ (w h : ℕ) (t : Tables) (a b : ℕ) (ws vs : List (List ℕ)) where
   abbrev rest : ℕ
   rest = numbers outside (eqb a b) unused (cond (not (adjoin w h t a b)) 9 0)
 
-  pub check-refused : (v : Verdict) → OneOf (1 ∷ 2 ∷ 3 ∷ []) (tagOf Rattle.verdict.proofs.judge.Verdict.the-type v)
+  check-refused : (v : Verdict) → OneOf (1 ∷ 2 ∷ 3 ∷ []) (tagOf Rattle.verdict.proofs.judge.Verdict.the-type v)
       → answered v (five t) vs ≡ checked w h t ws → (o : Joined) → o ≡ refused v → Promised o t vs
   unfolding answered merged joinRefusal
   check-refused v p e o q =
@@ -148,7 +125,7 @@ module _ (w h : ℕ) (t : Tables) (a b : ℕ) (ws vs : List (List ℕ)) where
     goes-on = accepted-on w h t ws vs accepts rest
 
     -- the names are refused
-    pub names-refused : (o : Joined) → o ≡ named (t .parent) a b → Other o → Promised o t vs
+    names-refused : (o : Joined) → o ≡ named (t .parent) a b → Other o → Promised o t vs
     unfolding merged named used
     names-refused o e p =
         let n = other-not-done o p in
@@ -159,21 +136,21 @@ module _ (w h : ℕ) (t : Tables) (a b : ℕ) (ws vs : List (List ℕ)) where
         )
 
     -- or they are two regions
-    module _ (o : Joined) (f : o ≡ Joined.Done) (g : o ≡ named (t .parent) a b) where
+    module _ (g : named (t .parent) a b ≡ Joined.Done) where
       tested : (outside ≡ false) × (eqb a b ≡ false) × (unused ≡ false)
       unfolding named used
-      tested = answers-done outside (eqb a b) unused (sym f ∙ g)
+      tested = answers-done outside (eqb a b) unused (sym g)
 
       both : (used t a ≡ true) × (used t b ≡ true)
       both =
           let u = not-false (used t a && used t b) (tested .2) in
           (and-left (used t a) (used t b) u, and-right (used t a) (used t b) u)
 
-      pub regions-apart : adjoin w h t a b ≡ false → Promised Joined.Apart t vs
+      regions-apart : adjoin w h t a b ≡ false → Promised Joined.Apart t vs
       unfolding merged number outcome
       regions-apart n = let k = tested in (rw (goes-on, work, k .0, k .1, k .2, n), λ z. absurd (omega arith))
 
-      pub regions-ready : Ready w h t vs a b
+      regions-ready : Ready w h t vs a b
       regions-ready =
           let l = accepted-stated w h t ws vs accepts in
           drawn-ready w h t vs a b size (rw (work, cleared-stated) l) drawn (both .0) (both .1)
@@ -190,7 +167,7 @@ module _ (w h : ℕ) (t : Tables) (a b : ℕ) (ws vs : List (List ℕ)) where
               neighbours = n;
             }
 
-        pub regions-joined : (u : Tables) (xs : List (List ℕ)) → u ≡ joined w h t a b → xs ≡ cleared vs
+        regions-joined : (u : Tables) (xs : List (List ℕ)) → u ≡ joined w h t a b → xs ≡ cleared vs
             → Promised Joined.Done u xs
         unfolding merged number outcome
         regions-joined u xs p q =
@@ -199,3 +176,36 @@ module _ (w h : ℕ) (t : Tables) (a b : ℕ) (ws vs : List (List ℕ)) where
               rw (goes-on, k .0, k .1, k .2, n, p, l),
               λ z. joined-faithful w h t u a b size drawn regions-joinable p,
             )
+
+  -- The answer o to the names after the verdict v.
+  module _ (v : Verdict) (c : answered v (five t) vs ≡ checked w h t ws) (o : Joined)
+      (q : o ≡ asked v (named (t .parent) a b) (adjoin w h t a b)) where
+    pub asked-stops : Other o → Promised o t vs
+    unfolding asked
+    asked-stops p = stops v c q
+      where
+        named-stops : (k s : Bool) → answered Verdict.Done (five t) vs ≡ checked w h t ws
+            → eqb (number (named (t .parent) a b)) 0 ≡ k → adjoin w h t a b ≡ s
+            → o ≡ cond k (cond s Joined.Done Joined.Apart) (named (t .parent) a b) → Promised o t vs
+        named-stops false s e f g r = names-refused Verdict.Done refl e o r p
+        named-stops true true e f g r = absurd (other-not-done o p r)
+        named-stops true false e f g r =
+            rw r
+            (regions-apart Verdict.Done refl e (zero-done (named (t .parent) a b) (eqb-true (number (named (t .parent) a b)) 0 f)) g)
+
+        stops : (u : Verdict) → answered u (five t) vs ≡ checked w h t ws
+            → o ≡ asked u (named (t .parent) a b) (adjoin w h t a b) → Promised o t vs
+        stops Verdict.Done e r = named-stops (eqb (number (named (t .parent) a b)) 0) (adjoin w h t a b) e refl refl r
+        stops Verdict.Size e r = check-refused Verdict.Size (inl refl) e o r
+        stops Verdict.Tables e r = check-refused Verdict.Tables (inr (inl refl)) e o r
+        stops Verdict.Drawing e r = check-refused Verdict.Drawing (inr (inr refl)) e o r
+
+    module _ (f : o ≡ Joined.Done) where
+      all : (v ≡ Verdict.Done) × (named (t .parent) a b ≡ Joined.Done) × (adjoin w h t a b ≡ true)
+      all = done-asked v (named (t .parent) a b) (adjoin w h t a b) (sym f ∙ q)
+
+      pub asked-ready : Ready w h t vs a b
+      asked-ready = regions-ready v (all .0) c (all .1)
+
+      pub asked-joined : (u : Tables) (xs : List (List ℕ)) → u ≡ joined w h t a b → xs ≡ cleared vs → Promised Joined.Done u xs
+      asked-joined = regions-joined v (all .0) c (all .1) (all .2)

@@ -1,13 +1,11 @@
 use joining::apply;
-use pairs::adjoin;
-use pairs::answer;
 use pairs::answer::Joined;
+use pairs::asked;
 use verdict::judge;
-use verdict::judge::Verdict;
 ghost use mathlib.Core.Path.{_≡_};
 ghost use mathlib.Core.List.{[]};
 ghost use Rattle.paper.specs.Refusal.{five, merged};
-ghost use Rattle.drawing.specs.Given.{tables, works};
+ghost use Rattle.parts.specs.Given.{tables, works};
 ghost use Rattle.drawing.specs.Answer.{left};
 ghost use Rattle.pairs.specs.Answer.{number};
 ghost use Rattle.join.specs.Faithful.{Faithful};
@@ -61,16 +59,10 @@ pub fn join(
         work_c,
         work_d,
     );
-    let Verdict::Done = verdict else {
-        return answer::refused(verdict);
+    let answer = asked::asked(verdict, width, height, side1, parent, a, b);
+    let Joined::Done = answer else {
+        return answer;
     };
-    let named = answer::check_names(parent, a, b);
-    let Joined::Done = named else {
-        return named;
-    };
-    if !adjoin::adjoin(width, height, side1, a, b) {
-        return Joined::Apart;
-    }
     apply::apply(
         width,
         height,

@@ -1,137 +1,145 @@
 -- What is refused, and what is told of it.
---   levelRefusal .. == the number of the refusal, 0 for none
+--   seven n x o s a b c d == the lengths of the three tables and of four work tables are all n
+--   refusal w h l n k == the number of the first refusal, 0 for none
 --   levelled ..     == the outcome of a level drawing
 --   told r ts ws    == the outcome that the answer r tells
-use mathlib.Core.Path.{_≡_, refl, sym, _∙_}
-use mathlib.Core.Bool.{Bool, true, false, not, _&&_}
+use mathlib.Core.Path.{_≡_, refl}
+use mathlib.Core.Bool.{Bool, true, false, cond, not, _&&_}
 use mathlib.Core.List.{List, [], _∷_}
-use mathlib.Core.Logic.{_≢_}
-use Prim.Native.Nat.{ℕ, suc, _*_, _≤_, _<_}
-use lib.Dec.{lit<}
+use mathlib.Core.Logic.{_≢_, ⊎-elim}
+use Prim.Native.Nat.{ℕ, _*_, _≤_, _<_}
+use native.Mathlib.Omega.{arith}
+use lib.Dec.{eqb, ltb}
 use lib.ListN.{length}
-use borrow.Author.Tests.{eq-eqb, ne-eqb, lt-ltb, le-ltb, not-true, not-false}
+use borrow.Author.Tests.{eqb-true, eq-eqb, ne-eqb, ltb-false, lt-ltb, le-ltb}
+use types.Run.{OneOf}
+use denote.Enum.Declared.{tagOf}
+use Rattle.laws.proofs.Test.{and-left, and-right}
 use Rattle.plane.specs.Size.{within}
 use Rattle.plane.specs.Dart.{slots}
 use Rattle.paper.specs.Refusal.{sized, cleared, outcome, levelRefusal, levelTables, levelled}
+use Rattle.parts.specs.Lengths.{four}
+use Rattle.parts.proofs.Stated.{all-four}
 use Rattle.level.specs.declared.draw.Drawn.{Drawn}
 use Rattle.level.specs.declared.draw.Drawn.the-variants.{Done, Size, Level, Sheet, Tables}
-use Rattle.level.specs.Draw.{answer, told}
+use Rattle.level.specs.Draw.{answer, seven, refusal, told}
+use Rattle.level.proofs.draw.Drawn.{the-type}
 
--- a test that was negated
-pub within-true : (w h : ℕ) (r : Bool) → r ≡ within w h → not r ≡ false → within w h ≡ true
-within-true w h r e f = sym e ∙ not-false r f
+-- Seven lengths, one after the other.
+module _ (n x o s a b c d : ℕ) where
+  pub first-differs : x ≢ n → false ≡ seven n x o s a b c d
+  unfolding seven
+  first-differs p = rw (ne-eqb x n p)
 
-pub within-false : (w h : ℕ) (r : Bool) → r ≡ within w h → not r ≡ true → within w h ≡ false
-within-false w h r e f = sym e ∙ not-true r f
+  module _ (p : x ≡ n) where
+    pub second-differs : o ≢ n → false ≡ seven n x o s a b c d
+    unfolding seven
+    second-differs q = rw (eq-eqb x n p, ne-eqb o n q)
 
-module _ (w h l : ℕ) (s : List ℕ) (ts ws : List (List ℕ)) where
-  refused : (r : Drawn) (k : ℕ) → answer r ≡ suc k → k < 4 → levelRefusal w h l s ts ws ≡ suc k
-      → told r ts ws ≡ levelled w h l s ts ws
-  unfolding told levelled outcome
-  refused r k a b e = rw (a, e, lt-ltb k 4 b)
+    module _ (q : o ≡ n) where
+      pub third-differs : s ≢ n → false ≡ seven n x o s a b c d
+      unfolding seven
+      third-differs r = rw (eq-eqb x n p, eq-eqb o n q, ne-eqb s n r)
 
-  pub size-refused : within w h ≡ false → told Size ts ws ≡ levelled w h l s ts ws
-  unfolding levelRefusal answer
-  size-refused e = refused Size 0 refl (lit< tt) (rw e)
+      pub rest-same : s ≡ n → (t : Bool) → t ≡ four n a b c d → t ≡ seven n x o s a b c d
+      unfolding seven
+      rest-same r t e = rw (eq-eqb x n p, eq-eqb o n q, eq-eqb s n r) e
+
+  pub all-seven : seven n x o s a b c d ≡ true
+      → ((x ≡ n) × (o ≡ n) × (s ≡ n)) × ((a ≡ n) × (b ≡ n) × (c ≡ n) × (d ≡ n))
+  unfolding seven
+  all-seven e =
+      let l : Bool = eqb x n && (eqb o n && (eqb s n && true)) in
+      let f = and-left l (four n a b c d) e in
+      let g = and-right (eqb x n) (eqb o n && (eqb s n && true)) f in (
+        (
+          eqb-true x n (and-left (eqb x n) (eqb o n && (eqb s n && true)) f),
+          eqb-true o n (and-left (eqb o n) (eqb s n && true) g),
+          eqb-true s n (and-left (eqb s n) true (and-right (eqb o n) (eqb s n && true) g)),
+        ),
+        all-four n a b c d (and-right l (four n a b c d) e),
+      )
+
+-- The first refusal, one test after the other.
+module _ (w h l n : ℕ) (k : Bool) where
+  pub size-refused : within w h ≡ false → 1 ≡ refusal w h l n k
+  unfolding refusal
+  size-refused e = rw e
 
   module _ (e : within w h ≡ true) where
-    pub level-refused : 3 < l → told Level ts ws ≡ levelled w h l s ts ws
-    unfolding levelRefusal answer
-    level-refused f = refused Level 1 refl (lit< tt) (rw (e, lt-ltb 3 l f))
+    pub level-refused : 3 < l → 2 ≡ refusal w h l n k
+    unfolding refusal
+    level-refused f = rw (e, lt-ltb 3 l f)
 
     module _ (f : l ≤ 3) where
-      pub sheet-refused : length s ≢ w * h → told Sheet ts ws ≡ levelled w h l s ts ws
-      unfolding levelRefusal answer
-      sheet-refused g = refused Sheet 2 refl (lit< tt) (rw (e, le-ltb 3 l f, ne-eqb (length s) (w * h) g))
+      pub sheet-refused : n ≢ w * h → 3 ≡ refusal w h l n k
+      unfolding refusal
+      sheet-refused g = rw (e, le-ltb 3 l f, ne-eqb n (w * h) g)
 
-      module _ (g : length s ≡ w * h) where
-        tables-refused : (sized (slots w h) ts && sized (slots w h) ws) ≡ false → told Tables ts ws ≡ levelled w h l s ts ws
-        unfolding levelRefusal answer
-        tables-refused i = refused Tables 3 refl (lit< tt) (rw (e, le-ltb 3 l f, eq-eqb (length s) (w * h) g, i))
+      module _ (g : n ≡ w * h) where
+        pub tables-refused : k ≡ false → 4 ≡ refusal w h l n k
+        unfolding refusal
+        tables-refused i = rw (e, le-ltb 3 l f, eq-eqb n (w * h) g, i)
 
-        none-refused : (sized (slots w h) ts && sized (slots w h) ws) ≡ true → levelRefusal w h l s ts ws ≡ 0
-        unfolding levelRefusal
-        none-refused i = rw (e, le-ltb 3 l f, eq-eqb (length s) (w * h) g, i)
+        pub none-refused : k ≡ true → 0 ≡ refusal w h l n k
+        unfolding refusal
+        none-refused i = rw (e, le-ltb 3 l f, eq-eqb n (w * h) g, i)
 
-        done-told : (sized (slots w h) ts && sized (slots w h) ws) ≡ true → (us vs : List (List ℕ))
-            → us ≡ levelTables w h l s → vs ≡ cleared ws → told Done us vs ≡ levelled w h l s ts ws
-        unfolding told levelled outcome answer
-        done-told i us vs p q = rw (none-refused i, p, q)
+-- four tests that are passed
+passed : (a b c d : Bool) → _≡_ {A = ℕ} 0 (cond (not a) 1 (cond b 2 (cond (not c) 3 (cond (not d) 4 0))))
+    → (a ≡ true) × (b ≡ false) × (c ≡ true) × (d ≡ true)
+passed false b c d e = absurd (omega arith)
+passed true true c d e = absurd (omega arith)
+passed true false false d e = absurd (omega arith)
+passed true false true false e = absurd (omega arith)
+passed true false true true e = (refl, refl, refl, refl)
 
--- The lengths of the tables, one after another.
-module _ (w h l : ℕ) (s n o d a b c z : List ℕ) (e : within w h ≡ true) (f : l ≤ 3) (g : length s ≡ w * h) where
+-- A size, a level and lengths of which it is answered that nothing is refused.
+module _ (w h l n x o s a b c d : ℕ) (r : Drawn)
+    (e : answer r ≡ refusal w h l n (seven (slots w h) x o s a b c d)) (f : r ≡ Done) where
+  pub all-fit : (within w h ≡ true) × (l ≤ 3) × (n ≡ w * h) × (x ≡ slots w h) × (o ≡ slots w h) × (s ≡ slots w h)
+      × (a ≡ slots w h) × (b ≡ slots w h) × (c ≡ slots w h) × (d ≡ slots w h)
+  unfolding answer refusal
+  all-fit =
+      let k : Bool = seven (slots w h) x o s a b c d in
+      let g : 0 ≡ refusal w h l n k = rw f at e in
+      let (i, j, p, q) = passed (within w h) (ltb 3 l) (eqb n (w * h)) k g in
+      let (t, u) = all-seven (slots w h) x o s a b c d q in
+      (i, ltb-false 3 l j, eqb-true n (w * h) p, t .0, t .1, t .2, u .0, u .1, u .2, u .3)
+
+-- an answer that is not done leaves all as it was
+left-all : (r : Drawn) (k : ℕ) (ts us ws : List (List ℕ)) → OneOf (1 ∷ 2 ∷ 3 ∷ 4 ∷ []) (tagOf the-type r) → answer r ≡ k
+    → told r ts ws ≡ outcome k [] ts us ws
+unfolding told answer outcome
+left-all Done k ts us ws p e =
+    absurd (⊎-elim (λ q. omega arith) (⊎-elim (λ q. omega arith) (⊎-elim (λ q. omega arith) (λ q. omega arith))) p)
+left-all Size k ts us ws p e = rw (← e)
+left-all Level k ts us ws p e = rw (← e)
+left-all Sheet k ts us ws p e = rw (← e)
+left-all Tables k ts us ws p e = rw (← e)
+
+-- A sheet and tables of which this is answered.
+module _ (w h l : ℕ) (i x o s a b c d : List ℕ) (r : Drawn)
+    (e : answer r
+    ≡ refusal w h l (length i)
+    (seven (slots w h) (length x) (length o) (length s) (length a) (length b) (length c) (length d))) where
   abbrev lent : List (List ℕ)
-  lent = n ∷ o ∷ d ∷ []
+  lent = x ∷ o ∷ s ∷ []
 
   abbrev work : List (List ℕ)
-  work = a ∷ b ∷ c ∷ z ∷ []
+  work = a ∷ b ∷ c ∷ d ∷ []
 
-  abbrev Told : Type 0
-  Told = told Tables lent work ≡ levelled w h l s lent work
+  number : answer r ≡ levelRefusal w h l i lent work
+  unfolding refusal seven four levelRefusal sized
+  number = e
 
-  pub next-refused : length n ≢ slots w h → Told
-  unfolding sized
-  next-refused x = tables-refused w h l s lent work e f g (rw (ne-eqb (length n) (slots w h) x))
+  pub refused : OneOf (1 ∷ 2 ∷ 3 ∷ 4 ∷ []) (tagOf the-type r) → told r lent work ≡ levelled w h l i lent work
+  unfolding levelled
+  refused q = left-all r (levelRefusal w h l i lent work) lent (levelTables w h l i) work q number
 
-  module _ (en : length n ≡ slots w h) where
-    pub other-refused : length o ≢ slots w h → Told
-    unfolding sized
-    other-refused x =
-        tables-refused w h l s lent work e f g (rw (eq-eqb (length n) (slots w h) en, ne-eqb (length o) (slots w h) x))
-
-    module _ (eo : length o ≡ slots w h) where
-      pub side-refused : length d ≢ slots w h → Told
-      unfolding sized
-      side-refused x =
-          tables-refused w h l s lent work e f g
-          (rw (eq-eqb (length n) (slots w h) en, eq-eqb (length o) (slots w h) eo, ne-eqb (length d) (slots w h) x))
-
-      module _ (ed : length d ≡ slots w h) where
-        lent-sized : sized (slots w h) lent ≡ true
-        unfolding sized
-        lent-sized =
-            rw (eq-eqb (length n) (slots w h) en, eq-eqb (length o) (slots w h) eo, eq-eqb (length d) (slots w h) ed)
-
-        work-refused : sized (slots w h) work ≡ false → Told
-        work-refused x = tables-refused w h l s lent work e f g (rw (lent-sized, x))
-
-        pub a-refused : length a ≢ slots w h → Told
-        unfolding sized
-        a-refused x = work-refused (rw (ne-eqb (length a) (slots w h) x))
-
-        module _ (ea : length a ≡ slots w h) where
-          pub b-refused : length b ≢ slots w h → Told
-          unfolding sized
-          b-refused x = work-refused (rw (eq-eqb (length a) (slots w h) ea, ne-eqb (length b) (slots w h) x))
-
-          module _ (eb : length b ≡ slots w h) where
-            pub c-refused : length c ≢ slots w h → Told
-            unfolding sized
-            c-refused x =
-                work-refused
-                (rw (eq-eqb (length a) (slots w h) ea, eq-eqb (length b) (slots w h) eb, ne-eqb (length c) (slots w h) x))
-
-            module _ (ec : length c ≡ slots w h) where
-              pub d-refused : length z ≢ slots w h → Told
-              unfolding sized
-              d-refused x =
-                  work-refused
-                  (rw (
-                    eq-eqb (length a) (slots w h) ea,
-                    eq-eqb (length b) (slots w h) eb,
-                    eq-eqb (length c) (slots w h) ec,
-                    ne-eqb (length z) (slots w h) x,
-                  ))
-
-              pub all-done : length z ≡ slots w h → (us vs : List (List ℕ)) → us ≡ levelTables w h l s → vs ≡ cleared work
-                  → told Done us vs ≡ levelled w h l s lent work
-              unfolding sized
-              all-done ez us vs p q =
-                  done-told w h l s lent work e f g
-                  (rw (
-                    lent-sized,
-                    eq-eqb (length a) (slots w h) ea,
-                    eq-eqb (length b) (slots w h) eb,
-                    eq-eqb (length c) (slots w h) ec,
-                    eq-eqb (length z) (slots w h) ez,
-                  )) us vs p q
+  pub done : r ≡ Done → (us vs : List (List ℕ)) → us ≡ levelTables w h l i → vs ≡ cleared work
+      → told Done us vs ≡ levelled w h l i lent work
+  unfolding told levelled outcome answer
+  done f us vs p q =
+      let g : 0 ≡ levelRefusal w h l i lent work = rw f at number in
+      rw (← g, p, q)

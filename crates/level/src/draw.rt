@@ -1,9 +1,11 @@
 use levels::fill;
+use parts::lengths;
 use plane::size;
 ghost use mathlib.Core.Path.{_≡_};
 ghost use mathlib.Core.List.{[], _∷_};
+ghost use Rattle.plane.specs.Dart.{slots};
 ghost use Rattle.paper.specs.Refusal.{levelled};
-ghost use Rattle.level.specs.Draw.{answer, told};
+ghost use Rattle.level.specs.Draw.{answer, seven, refusal, told};
 
 // What the level drawing answers: done, or what is refused.
 pub enum Drawn {
@@ -36,6 +38,63 @@ impl Drawn {
 // The greatest level.
 const HIGHEST: u16 = 3;
 
+// Whether the lengths of the three tables and of four work tables are all n.
+fn seven(
+    n: usize,
+    next: usize,
+    other: usize,
+    side: usize,
+    a: usize,
+    b: usize,
+    c: usize,
+    d: usize,
+) -> bool
+    ensures { λ r. ⌜ r ≡ seven n next other side a b c d ⌝ }
+{
+    if next != n {
+        return false;
+    }
+    if other != n {
+        return false;
+    }
+    if side != n {
+        return false;
+    }
+    lengths::four(n, a, b, c, d)
+}
+
+// What the level drawing answers to a size, a level and these lengths, of the sheet, the three tables and the work tables.
+fn refusal(
+    width: u16,
+    height: u16,
+    level: u16,
+    sheet: usize,
+    next: usize,
+    other: usize,
+    side: usize,
+    a: usize,
+    b: usize,
+    c: usize,
+    d: usize,
+) -> Drawn
+    ensures { λ r. ⌜ answer r ≡ refusal width height level sheet (seven (slots width height) next other side a b c d) ⌝ }
+{
+    if !size::within(width, height) {
+        return Drawn::Size;
+    }
+    if HIGHEST < level {
+        return Drawn::Level;
+    }
+    if sheet != (width * height) as usize {
+        return Drawn::Sheet;
+    }
+    let slots = (4 * ((width + 1) * (height + 1))) as usize;
+    if !seven(slots, next, other, side, a, b, c, d) {
+        return Drawn::Tables;
+    }
+    Drawn::Done
+}
+
 // Draws a level of a sheet: next, other and side, the mark at each slot without a dart of the level, and the work tables
 // all 0. Refusals: 1 where the width or the height is not 1 to the greatest, 2 where the level is above 3, 3 where the
 // sheet's length is not the width times the height, 4 where a table's length is not the number of slots. A refusal leaves
@@ -61,37 +120,25 @@ pub fn draw(
         (now («work_a» .entry) ∷ now («work_b» .entry) ∷ now («work_c» .entry) ∷ now («work_d» .entry) ∷ [])
         ⌝ }
 {
-    if !size::within(width, height) {
-        return Drawn::Size;
-    }
-    if HIGHEST < level {
-        return Drawn::Level;
-    }
-    if sheet.len() != (width * height) as usize {
-        return Drawn::Sheet;
-    }
-    let slots = (4 * ((width + 1) * (height + 1))) as usize;
-    if next.len() != slots {
-        return Drawn::Tables;
-    }
-    if other.len() != slots {
-        return Drawn::Tables;
-    }
-    if side.len() != slots {
-        return Drawn::Tables;
-    }
-    if work_a.len() != slots {
-        return Drawn::Tables;
-    }
-    if work_b.len() != slots {
-        return Drawn::Tables;
-    }
-    if work_c.len() != slots {
-        return Drawn::Tables;
-    }
-    if work_d.len() != slots {
-        return Drawn::Tables;
-    }
+    let x = next.len();
+    let o = other.len();
+    let s = side.len();
+    let answer = refusal(
+        width,
+        height,
+        level,
+        sheet.len(),
+        x,
+        o,
+        s,
+        work_a.len(),
+        work_b.len(),
+        work_c.len(),
+        work_d.len(),
+    );
+    let Drawn::Done = answer else {
+        return answer;
+    };
     fill::fill(
         width,
         height,

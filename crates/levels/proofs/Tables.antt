@@ -3,8 +3,10 @@
 use mathlib.Core.Path.{_≡_, ap, _∙_}
 use mathlib.Core.Bool.{true}
 use mathlib.Core.List.{List, [], _∷_}
-use Prim.Native.Nat.{ℕ}
-use lib.ListN.{getD}
+use mathlib.Core.Logic.{_≢_}
+use Prim.Native.Nat.{ℕ, zero, suc, _≤_, _<_}
+use native.Mathlib.Omega.{arith}
+use borrow.Author.Tests.{eq-eqb, ne-eqb}
 use Rattle.plane.specs.Size.{within}
 use Rattle.paper.specs.Name.{names}
 use Rattle.paper.specs.Level.{tops}
@@ -17,54 +19,45 @@ use Rattle.lines.specs.Line.{nexts, others}
 use Rattle.sides.specs.Side.{sides}
 use Rattle.keeping.specs.Keep.{bends, keeps}
 use Rattle.curves.specs.Link.{alongNext, alongOther, alongSide}
-use Rattle.levels.specs.Tables.{plainTables, alongTables, tablesOf}
+use Rattle.levels.specs.Tables.{plainTables, alongTables, plainMasks, keptPoints, tablesOf}
 use Rattle.levels.proofs.Paper.{levelTables-paper}
 
-pub three : (a b c x y z : List ℕ) → a ≡ x → b ≡ y → c ≡ z → _≡_ {A = List (List ℕ)} (a ∷ b ∷ c ∷ []) (x ∷ y ∷ z ∷ [])
-three a b c x y z p q r = λ i. p i ∷ q i ∷ r i ∷ []
+module _ (w h l : ℕ) (f m : List ℕ) where
+  -- the lines of a plain level
+  pub ruled-masks : l ≡ 0 → m ≡ ruled w h → m ≡ plainMasks w h l f
+  unfolding plainMasks
+  ruled-masks e q = rw (eq-eqb l 0 e) q
 
-module _ (w h : ℕ) where
-  pub plain-tables : (f m a b c : List ℕ) → a ≡ nexts w h m → b ≡ others w h m → c ≡ sides w h f m
-      → _≡_ {A = List (List ℕ)} (a ∷ b ∷ c ∷ []) (plainTables w h f m)
-  unfolding plainTables
-  plain-tables f m a b c p q r = three _ _ _ _ _ _ p q r
+  pub masked-masks : l ≢ 0 → m ≡ masked w h f → m ≡ plainMasks w h l f
+  unfolding plainMasks
+  masked-masks e q = rw (ne-eqb l 0 e) q
 
-  pub along-tables : (x k s a b c : List ℕ) → a ≡ alongNext w h x k → b ≡ alongOther w h x k → c ≡ alongSide a s
-      → _≡_ {A = List (List ℕ)} (a ∷ b ∷ c ∷ []) (alongTables w h x k s)
-  unfolding alongTables
-  along-tables x k s a b c p q r = three _ _ _ _ _ _ p q (r ∙ ap (λ y. alongSide y s) p)
+  -- the points that are kept, f being the sides of level 1
+  pub bends-points : (k : List ℕ) → l ≡ 2 → k ≡ bends w h m → k ≡ keptPoints w h l m f
+  unfolding keptPoints
+  bends-points k e q = rw (eq-eqb l 2 e) q
 
-  module _ (f : List ℕ) (ts : List (List ℕ)) where
-    pub zeroth-tables : (m : List ℕ) → m ≡ ruled w h → ts ≡ plainTables w h f m → ts ≡ tablesOf w h 0 f
-    unfolding tablesOf
-    zeroth-tables m e q = rw e at q
+  pub keeps-points : (k : List ℕ) → l ≢ 2 → k ≡ keeps w h m (tops w h (on f)) → k ≡ keptPoints w h l m f
+  unfolding keptPoints
+  keeps-points k e q = rw (ne-eqb l 2 e) q
 
-    pub first-tables : (m : List ℕ) → m ≡ masked w h f → ts ≡ plainTables w h f m → ts ≡ tablesOf w h 1 f
-    unfolding tablesOf
-    first-tables m e q = rw e at q
+module _ (w h : ℕ) (f m x s : List ℕ) (p : x ≡ nexts w h m) (q : s ≡ sides w h f m) where
+  pub plain-tables : (l : ℕ) (o : List ℕ) → l < 2 → m ≡ plainMasks w h l f → o ≡ others w h m
+      → _≡_ {A = List (List ℕ)} (x ∷ o ∷ s ∷ []) (tablesOf w h l f)
+  unfolding tablesOf plainTables plainMasks
+  plain-tables zero o b e r = rw (p, q, r, e)
+  plain-tables (suc zero) o b e r = rw (p, q, r, e)
+  plain-tables (suc (suc l)) o b e r = absurd (omega arith)
 
-    -- the lines of level 1 with their next and side
-    module _ (m x s k : List ℕ)
-        (l : _≡_ {A = List (List ℕ)} (m ∷ x ∷ s ∷ []) (masked w h f ∷ nexts w h (masked w h f) ∷ sides w h f (masked w h f) ∷ [])) where
-      lines-masks : m ≡ masked w h f
-      lines-masks = ap (λ t. getD t 0 []) l
-
-      lines-next : x ≡ nexts w h (masked w h f)
-      lines-next = ap (λ t. getD t 1 []) l
-
-      lines-side : s ≡ sides w h f (masked w h f)
-      lines-side = ap (λ t. getD t 2 []) l
-
-      pub second-tables : k ≡ bends w h m → ts ≡ alongTables w h x k s → ts ≡ tablesOf w h 2 f
-      unfolding tablesOf
-      second-tables e q = rw (e, lines-masks, lines-next, lines-side) at q
-
-      pub third-tables : k ≡ keeps w h m (tops w h (on s)) → ts ≡ alongTables w h x k s → ts ≡ tablesOf w h 3 f
-      unfolding tablesOf
-      third-tables e q = rw (e, lines-masks, lines-next, lines-side) at q
-
-    pub level-tables : (l k : ℕ) → l ≡ k → ts ≡ tablesOf w h k f → ts ≡ tablesOf w h l f
-    level-tables l k e q = rw (← e) at q
+  pub along-tables : (l : ℕ) (k y o t : List ℕ) → 2 ≤ l → l ≤ 3 → m ≡ masked w h f → k ≡ keptPoints w h l m s
+      → y ≡ alongNext w h x k → o ≡ alongOther w h x k → t ≡ alongSide y s
+      → _≡_ {A = List (List ℕ)} (y ∷ o ∷ t ∷ []) (tablesOf w h l f)
+  unfolding tablesOf alongTables keptPoints
+  along-tables zero k y o t b c e g i j n = absurd (omega arith)
+  along-tables (suc zero) k y o t b c e g i j n = absurd (omega arith)
+  along-tables (suc (suc zero)) k y o t b c e g i j n = rw (n, j, i, g, p, q, e)
+  along-tables (suc (suc (suc zero))) k y o t b c e g i j n = rw (n, j, i, g, p, q, e)
+  along-tables (suc (suc (suc (suc l)))) k y o t b c e g i j n = absurd (omega arith)
 
 -- The tables of a sheet, from the frame of its names.
 pub filled-tables : (w h l : ℕ) (s f : List ℕ) (ts : List (List ℕ)) → within w h ≡ true → f ≡ framed w h (names w h s)

@@ -36,19 +36,22 @@ fn numbered(
         tablesOf width height level (now (framed .entry))
         ⌝ }
 {
-    if level == 0 {
-        plain::zeroth(width, height, framed, masks, next, other, side);
+    if level < 2 {
+        plain::plain(width, height, level, framed, masks, next, other, side);
         return;
     }
-    if level == 1 {
-        plain::first(width, height, framed, masks, next, other, side);
-        return;
-    }
-    if level == 2 {
-        along::second(width, height, framed, next1, masks, kept, next, other, side);
-        return;
-    }
-    along::third(width, height, framed, next1, masks, kept, next, other, side);
+    along::along(
+        width,
+        height,
+        level,
+        framed,
+        next1,
+        masks,
+        kept,
+        next,
+        other,
+        side,
+    );
 }
 
 // Draws a level of a sheet where nothing is refused.

@@ -2,11 +2,13 @@
 --   number r        == the number of the refusal that the answer r tells, 0 for done
 --   refused v       == the answer after a check of the drawing whose verdict is v
 --   named p a b     == the answer to the names a and b by the table p of parents
-use mathlib.Core.Bool.{cond, not, _&&_, _||_}
+--   asked v n s     == the answer after the verdict v, where the names are answered by n and share a line as s says
+use mathlib.Core.Bool.{Bool, cond, not, _&&_, _||_}
 use mathlib.Core.List.{List}
 use Prim.Native.Nat.{ℕ}
 use lib.Dec.{eqb}
 use Rattle.paper.specs.Joining.{on}
+use Rattle.verdict.specs.Answer.{answer}
 use Rattle.verdict.specs.declared.judge.Verdict.{Verdict}
 use Rattle.pairs.specs.declared.answer.Joined.{Joined}
 
@@ -30,3 +32,6 @@ unfoldable pub named : List ℕ → ℕ → ℕ → Joined
 named p a b =
     cond (eqb a 0 || eqb b 0) Joined.Outside
     (cond (eqb a b) Joined.Equal (cond (not (on p a && on p b)) Joined.Name Joined.Done))
+
+unfoldable pub asked : Verdict → Joined → Bool → Joined
+asked v n s = cond (eqb (answer v) 0) (cond (eqb (number n) 0) (cond s Joined.Done Joined.Apart) n) (refused v)

@@ -2,7 +2,7 @@
 ghost use mathlib.Core.Path.{_≡_};
 ghost use mathlib.Core.List.{[], _∷_, _++_};
 ghost use Rattle.paper.specs.Refusal.{five, merged, deepened, holed};
-ghost use Rattle.drawing.specs.Given.{tables, works};
+ghost use Rattle.parts.specs.Given.{tables, works};
 ghost use Rattle.verdict.specs.Check.{checked};
 ghost use Rattle.counts.specs.Tally.{tallied};
 ghost use Rattle.drawing.specs.Answer.{left};
@@ -47,7 +47,7 @@ pub extern "C" fn raimenolta_check(
         work_c,
         work_d,
     );
-    verdict.number()
+    values::check::number(verdict)
 }
 
 // Joins the regions a and b of a drawing, in its five tables, which come to equal the drawing afresh. Refusals 1, 4, 5, 6,
@@ -247,5 +247,5 @@ pub extern "C" fn raimenolta_counts(
         work_c,
         work_d,
     );
-    answer.number()
+    values::check::number(answer)
 }

@@ -1,3 +1,4 @@
-// The values of an answer, put into lent slots: a caller in another language takes no enum.
+// What an answer tells a caller in another language, who takes no enum: its number, and its values in lent slots.
+pub mod check;
 pub mod count;
 pub mod read;

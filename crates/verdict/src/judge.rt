@@ -1,14 +1,15 @@
 use agreement::agree;
-use drawing::lengths;
+use parts::lengths;
 use plane::size;
 use table::entry;
 ghost use mathlib.Core.Path.{_≡_};
 ghost use mathlib.Core.Bool.{true};
 ghost use Rattle.plane.specs.Size.{within};
 ghost use Rattle.paper.specs.Drawing.{judged};
-ghost use Rattle.paper.specs.Refusal.{stated, cleared, five};
-ghost use Rattle.drawing.specs.Given.{tables, works};
-ghost use Rattle.verdict.specs.Check.{checked};
+ghost use Rattle.paper.specs.Refusal.{stated, five};
+ghost use Rattle.parts.specs.Given.{tables, works};
+ghost use Rattle.parts.specs.Lengths.{lengths};
+ghost use Rattle.verdict.specs.Check.{refusal, checked};
 ghost use Rattle.verdict.specs.Answer.{answer, answered};
 
 // What a check of a drawing answers: done, or what is refused.
@@ -36,8 +37,45 @@ impl Verdict {
     }
 }
 
-// Whether the five tables are the drawing of some sheet of this size. The work tables come out cleared.
-pub fn judge(
+// What a check of a drawing answers to a size and these lengths, of the five tables and of the work tables.
+fn refusal(
+    width: u16,
+    height: u16,
+    next1: usize,
+    side1: usize,
+    next3: usize,
+    other3: usize,
+    parent: usize,
+    a: usize,
+    b: usize,
+    c: usize,
+    d: usize,
+) -> Verdict
+    ensures { λ r. ⌜ answer r ≡ refusal width height (lengths width height next1 side1 next3 other3 parent a b c d) ⌝ }
+{
+    if !size::within(width, height) {
+        return Verdict::Size;
+    }
+    if !lengths::stated(
+        width,
+        height,
+        next1,
+        side1,
+        next3,
+        other3,
+        parent,
+        a,
+        b,
+        c,
+        d,
+    ) {
+        return Verdict::Tables;
+    }
+    Verdict::Done
+}
+
+// Whether the five tables are the drawing of some sheet of this size.
+fn judge(
     width: u16,
     height: u16,
     next1: &[u16],
@@ -57,18 +95,15 @@ pub fn judge(
         true)
         ⌝ }
     ensures { λ r. ⌜
-        (r ≡
+        r ≡
         judged width height
-        (tables (now (next1 .entry)) (now (side1 .entry)) (now (next3 .entry)) (now (other3 .entry)) (now (parent .entry)))) ×
-        (works (now (a .exit)) (now (b .exit)) (now (c .exit)) (now (d .exit)) ≡
-        cleared (works (now (a .entry)) (now (b .entry)) (now (c .entry)) (now (d .entry))))
+        (tables (now (next1 .entry)) (now (side1 .entry)) (now (next3 .entry)) (now (other3 .entry)) (now (parent .entry)))
         ⌝ }
 {
     if !agree::lines_agree(width, height, next1, side1, a, b, c, d) {
-        entry::clear_four(a, b, c, d);
         return false;
     }
-    let found = agree::curves_agree(
+    agree::curves_agree(
         width,
         height,
         next1,
@@ -80,9 +115,7 @@ pub fn judge(
         b,
         c,
         d,
-    );
-    entry::clear_four(a, b, c, d);
-    found
+    )
 }
 
 // Checks whether the five tables are the drawing of some sheet of this size: refusals 1, 4 and 5. The tables stay as
@@ -110,30 +143,23 @@ pub fn check(
         (works (now (a .entry)) (now (b .entry)) (now (c .entry)) (now (d .entry)))
         ⌝ }
 {
-    if !size::within(width, height) {
-        return Verdict::Size;
-    }
-    let x = next1.len();
-    let s = side1.len();
-    let y = next3.len();
-    let o = other3.len();
-    let p = parent.len();
-    if !lengths::stated(
+    let answer = refusal(
         width,
         height,
-        x,
-        s,
-        y,
-        o,
-        p,
+        next1.len(),
+        side1.len(),
+        next3.len(),
+        other3.len(),
+        parent.len(),
         a.len(),
         b.len(),
         c.len(),
         d.len(),
-    ) {
-        return Verdict::Tables;
-    }
-    if !judge(
+    );
+    let Verdict::Done = answer else {
+        return answer;
+    };
+    let found = judge(
         width,
         height,
         next1,
@@ -145,7 +171,9 @@ pub fn check(
         b,
         c,
         d,
-    ) {
+    );
+    entry::clear_four(a, b, c, d);
+    if !found {
         return Verdict::Drawing;
     }
     Verdict::Done

@@ -1,15 +1,17 @@
+use Prim.Native.Nat.{_+_, _*_}
+use lib.Seq.{length-front}
 use mathlib.Core.Path.{sym, _∙_}
 use native.Mathlib.Omega.{arith}
 use Rattle.plane.proofs.Fit.{cells-fit}
 use Rattle.table.proofs.Front.{front-in, front-long, front-back, back-in, back-long}
-use Rattle.drawing.proofs.Whole.{tops-rising}
+use Rattle.parts.proofs.Whole.{tops-rising}
 use Rattle.agreement.proofs.Judged.{names-part, curves-no, curves-yes}
 use borrow.Author.Needs.{needs}
 use Rattle.agreement.proofs.agree.curves_agree.Statement.{statement}
 use Rattle.agreement.proofs.agree.curves_agree.Tie as tie
 
 keep-points-requires : tie.Need-keep-points-requires
-keep-points-requires c κs = search needs
+keep-points-requires c κs = let s = c .before .before .before .before .before .before .before .before .before .before .before .before .pre in (s .0, s .1, s .3, s .2, s .4)
 
 draw-curves-requires : tie.Need-draw-curves-requires
 draw-curves-requires c κs = (c .before .before .before .before .before .before .before .before .before .before .before .before .before .before .before .before .before .before .before .before .pre .0, (c .before .before .before .before .before .before .before .keep-points .kept .1 .1 .1 .1 .1 .0) ∙ c .before .before .before .before .before .before .before .before .before .before .before .before .before .before .before .before .before .before .before .before .pre .4, c .before .before .before .before .before .before .before .before .before .before .before .before .before .before .before .before .before .before .before .before .pre .5, c .before .before .before .before .before .before .before .before .before .before .before .before .before .before .before .before .before .before .before .before .pre .3)
@@ -42,7 +44,7 @@ same-length-2 : tie.Need-same-length-2
 same-length-2 c = c .before .before .before .before .before .before .before .before .before .before .before .before .before .draw-curves .kept .1 .1 .1 .1 .1 .0
 
 same-length-3 : tie.Need-same-length-3
-same-length-3 c = search needs
+same-length-3 c = length-front (c .before .before .before .before .before .before .before .before .before .before .before .before .before .before .before .before .before .before .before .before .before .keep-points .last .1 .1 .1 .1 .1 .0) (c .before .before .before .before .before .before .draw-parents .last .1 .1 .1 .1 .0) (c .before .before .before .before .before .before .before .before .before .before .before .before .before .before .before .before .before .before .before .before .before .before .before .before .before .before .before .before .before .before .before .before .before .before .args .width * c .before .before .before .before .before .before .before .before .before .before .before .before .before .before .before .before .before .before .before .before .before .before .before .before .before .before .before .before .before .before .before .before .before .before .args .height + 1) (c .before .before .before .before .before .before .draw-parents .kept .1 .1 .1 .1 .0) ∙ (c .before .before .before .before .before .before .before .before .before .before .before .before .before .before .before .before .before .before .before .before .before .keep-points .kept .1 .1 .1 .1 .1 .0)
 
 same-length-4 : tie.Need-same-length-4
 same-length-4 c = c .before .before .before .before .before .before .before .before .before .before .before .before .before .draw-curves .kept .1 .1 .1 .1 .0
@@ -66,7 +68,7 @@ same-length-6 : tie.Need-same-length-6
 same-length-6 c = c .before .before .before .before .before .before .before .before .before .before .before .before .before .before .before .draw-curves .kept .1 .1 .1 .1 .1 .0
 
 same-length-7 : tie.Need-same-length-7
-same-length-7 c = search needs
+same-length-7 c = length-front (c .before .before .before .before .before .before .before .before .before .before .before .before .before .before .before .before .before .before .before .before .before .before .before .keep-points .last .1 .1 .1 .1 .1 .0) (c .before .before .before .before .before .before .before .before .draw-parents .last .1 .1 .1 .1 .0) (c .before .before .before .before .before .before .before .before .before .before .before .before .before .before .before .before .before .before .before .before .before .before .before .before .before .before .before .before .before .before .before .before .before .before .before .before .args .width * c .before .before .before .before .before .before .before .before .before .before .before .before .before .before .before .before .before .before .before .before .before .before .before .before .before .before .before .before .before .before .before .before .before .before .before .before .args .height + 1) (c .before .before .before .before .before .before .before .before .draw-parents .kept .1 .1 .1 .1 .0) ∙ (c .before .before .before .before .before .before .before .before .before .before .before .before .before .before .before .before .before .before .before .before .before .before .before .keep-points .kept .1 .1 .1 .1 .1 .0)
 
 same-length-8 : tie.Need-same-length-8
 same-length-8 c = c .before .before .before .before .before .before .before .before .before .before .before .before .before .before .before .draw-curves .kept .1 .1 .1 .1 .0

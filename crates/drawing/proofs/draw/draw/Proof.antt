@@ -1,79 +1,80 @@
-use mathlib.Core.Path.{sym, _∙_}
-use native.Mathlib.Omega.{arith}
-use borrow.Author.Tests.{not-true, not-false}
-use Rattle.plane.proofs.Fit.{cells-fit}
-use Rattle.drawing.proofs.Stated.{stated-lengths}
-use Rattle.drawing.proofs.Refusing.{draw-size, draw-sheet, draw-tables, draw-done}
-use borrow.Author.Needs.{needs}
+use mathlib.Core.Path.{refl, _∙_}
+use Rattle.table.proofs.Cleared.{cleared-same}
+use Rattle.parts.proofs.Whole.{drawing-whole, tops-rising}
+use Rattle.drawing.proofs.Refusing.{refused, fits, sheet-long, long, done}
 use Rattle.drawing.proofs.draw.draw.Statement.{statement}
 use Rattle.drawing.proofs.draw.draw.Tie as tie
 
-within-requires : tie.Need-within-requires
-within-requires c κs = search needs
+refusal-requires : tie.Need-refusal-requires
+refusal-requires c κs = tt
+
+enum-told : tie.Need-enum-told
+enum-told c = c .match .keys1
 
 returns : tie.Need-returns
-returns c = draw-size _ _ _ _ _ (sym (c .before .within .ensures) ∙ not-true _ (c .if1 .taken))
+returns c = refused _ _ _ _ _ _ _ _ _ _ _ _ _ (c .before .refusal .ensures) (c .match .keys2)
 
-mul-cells : tie.Need-mul-cells
-mul-cells c = omega (arith, cells-fit _ _ (sym (c .before .within .ensures) ∙ not-false _ (c .if1 .left)))
+name-cells-requires : tie.Need-name-cells-requires
+name-cells-requires c κs = let l = long _ _ _ _ _ _ _ _ _ _ _ _ _ (c .before .before .before .before .refusal .ensures) (c .before .before .enum-told .given .1) in (fits _ _ _ _ _ _ _ _ _ _ _ _ _ (c .before .before .before .before .refusal .ensures) (c .before .before .enum-told .given .1), sheet-long _ _ _ _ _ _ _ _ _ _ _ _ _ (c .before .before .before .before .refusal .ensures) (c .before .before .enum-told .given .1), l .work .0, l .work .1)
 
-cast-cells : tie.Need-cast-cells
-cast-cells c = omega (arith, cells-fit _ _ (sym (c .before .within .ensures) ∙ not-false _ (c .if1 .left)))
+draw-lines-requires : tie.Need-draw-lines-requires
+draw-lines-requires c κs = let l = long _ _ _ _ _ _ _ _ _ _ _ _ _ (c .before .before .before .before .before .before .before .before .before .before .before .before .before .refusal .ensures) (c .before .before .before .before .before .before .before .before .before .before .before .enum-told .given .1) in (fits _ _ _ _ _ _ _ _ _ _ _ _ _ (c .before .before .before .before .before .before .before .before .before .before .before .before .before .refusal .ensures) (c .before .before .before .before .before .before .before .before .before .before .before .enum-told .given .1), (c .before .before .before .before .before .before .before .before .name-cells .kept .1 .1 .1 .1 .0) ∙ l .work .1, (c .before .before .before .before .before .before .before .before .name-cells .kept .1 .1 .1 .0) ∙ l .work .0, l .lines .0, l .lines .1)
 
-returns-2 : tie.Need-returns-2
-returns-2 c = draw-sheet _ _ _ _ _ (sym (c .before .before .within .ensures) ∙ not-false _ (c .before .if1 .left)) (c .if2 .taken)
+keep-points-requires : tie.Need-keep-points-requires
+keep-points-requires c κs = let l = long _ _ _ _ _ _ _ _ _ _ _ _ _ (c .before .before .before .before .before .before .before .before .before .before .before .before .before .before .before .before .before .before .before .before .before .before .before .before .refusal .ensures) (c .before .before .before .before .before .before .before .before .before .before .before .before .before .before .before .before .before .before .before .before .before .before .enum-told .given .1) in (fits _ _ _ _ _ _ _ _ _ _ _ _ _ (c .before .before .before .before .before .before .before .before .before .before .before .before .before .before .before .before .before .before .before .before .before .before .before .before .refusal .ensures) (c .before .before .before .before .before .before .before .before .before .before .before .before .before .before .before .before .before .before .before .before .before .before .enum-told .given .1), (c .before .before .before .before .before .before .before .before .before .before .draw-lines .kept .1 .1 .1 .1 .1 .0) ∙ l .lines .1, (c .before .before .before .before .before .before .before .before .before .before .draw-lines .kept .1 .1 .1 .0) ∙ (c .before .before .before .before .before .before .before .before .before .before .before .before .before .before .before .before .before .before .before .name-cells .kept .1 .1 .1 .0) ∙ l .work .0, (c .before .before .before .before .before .before .before .before .before .before .before .before .before .before .before .before .before .before .before .name-cells .kept .1 .1 .1 .1 .0) ∙ l .work .1, l .work .2)
 
-stated-requires : tie.Need-stated-requires
-stated-requires c κs = sym (c .before .before .within .ensures) ∙ not-false _ (c .before .if1 .left)
+draw-curves-requires : tie.Need-draw-curves-requires
+draw-curves-requires c κs = let l = long _ _ _ _ _ _ _ _ _ _ _ _ _ (c .before .before .before .before .before .before .before .before .before .before .before .before .before .before .before .before .before .before .before .before .before .before .before .before .before .before .before .before .before .before .before .before .before .refusal .ensures) (c .before .before .before .before .before .before .before .before .before .before .before .before .before .before .before .before .before .before .before .before .before .before .before .before .before .before .before .before .before .before .before .enum-told .given .1) in (fits _ _ _ _ _ _ _ _ _ _ _ _ _ (c .before .before .before .before .before .before .before .before .before .before .before .before .before .before .before .before .before .before .before .before .before .before .before .before .before .before .before .before .before .before .before .before .before .refusal .ensures) (c .before .before .before .before .before .before .before .before .before .before .before .before .before .before .before .before .before .before .before .before .before .before .before .before .before .before .before .before .before .before .before .enum-told .given .1), (c .before .before .before .before .before .before .before .before .keep-points .kept .1 .1 .1 .1 .1 .0) ∙ l .work .2, l .lines .2, l .lines .3)
 
-returns-3 : tie.Need-returns-3
-returns-3 c = draw-tables _ _ _ _ _ (sym (c .before .before .before .before .within .ensures) ∙ not-false _ (c .before .before .before .if1 .left)) (c .before .before .if2 .left) (sym (stated-lengths _ _ _ _ _ _ _ _ _ _ _) ∙ sym (c .before .stated .ensures) ∙ not-true _ (c .if3 .taken))
+draw-parents-requires : tie.Need-draw-parents-requires
+draw-parents-requires c κs = let l = long _ _ _ _ _ _ _ _ _ _ _ _ _ (c .before .before .before .before .before .before .before .before .before .before .before .before .before .before .before .before .before .before .before .before .before .before .before .before .before .before .before .before .before .before .before .before .before .before .before .before .before .before .before .before .before .refusal .ensures) (c .before .before .before .before .before .before .before .before .before .before .before .before .before .before .before .before .before .before .before .before .before .before .before .before .before .before .before .before .before .before .before .before .before .before .before .before .before .before .before .enum-told .given .1) in (fits _ _ _ _ _ _ _ _ _ _ _ _ _ (c .before .before .before .before .before .before .before .before .before .before .before .before .before .before .before .before .before .before .before .before .before .before .before .before .before .before .before .before .before .before .before .before .before .before .before .before .before .before .before .before .before .refusal .ensures) (c .before .before .before .before .before .before .before .before .before .before .before .before .before .before .before .before .before .before .before .before .before .before .before .before .before .before .before .before .before .before .before .before .before .before .before .before .before .before .before .enum-told .given .1), (c .before .before .before .before .before .before .before .before .before .before .before .before .before .before .before .before .keep-points .kept .1 .1 .1 .1 .0) ∙ (c .before .before .before .before .before .before .before .before .before .before .before .before .before .before .before .before .before .before .before .before .before .before .before .before .before .before .before .before .before .before .before .before .before .before .before .before .name-cells .kept .1 .1 .1 .1 .0) ∙ l .work .1, tops-rising _ _ _ _ _ _ (c .before .before .before .before .before .before .before .before .before .before .before .before .before .before .before .before .keep-points .ensures), l .names)
 
-draw-all-requires : tie.Need-draw-all-requires
-draw-all-requires c κs = (sym (c .before .before .before .before .before .before .before .before .before .before .before .before .before .within .ensures) ∙ not-false _ (c .before .before .before .before .before .before .before .before .before .before .before .before .if1 .left), c .before .before .before .before .before .before .before .before .before .before .before .if2 .left, sym (stated-lengths _ _ _ _ _ _ _ _ _ _ _) ∙ sym (c .before .before .before .before .before .before .before .before .before .before .stated .ensures) ∙ not-false _ (c .before .before .before .before .before .before .before .before .before .if3 .left))
+clear-four-requires : tie.Need-clear-four-requires
+clear-four-requires c κs = tt
 
 same-length : tie.Need-same-length
-same-length c = c .before .before .before .before .before .before .before .before .before .before .before .before .before .before .before .before .before .before .draw-all .kept .1 .1 .1 .0
+same-length c = (c .before .before .before .before .before .before .before .before .before .before .before .before .before .before .before .before .before .before .before .before .before .before .before .before .before .before .before .before .before .before .before .before .before .before .before .before .before .before .before .before .before .before .before .draw-lines .kept .1 .1 .1 .1 .0)
 
 same-length-2 : tie.Need-same-length-2
-same-length-2 c = c .before .before .before .before .before .before .before .before .before .before .before .before .before .before .before .before .before .before .draw-all .kept .1 .1 .1 .1 .0
+same-length-2 c = (c .before .before .before .before .before .before .before .before .before .before .before .before .before .before .before .before .before .before .before .before .before .before .before .before .before .before .before .before .before .before .before .before .before .before .before .before .before .before .before .before .before .before .before .draw-lines .kept .1 .1 .1 .1 .1 .0)
 
 same-length-3 : tie.Need-same-length-3
-same-length-3 c = c .before .before .before .before .before .before .before .before .before .before .before .before .before .before .before .before .before .before .draw-all .kept .1 .1 .1 .1 .1 .0
+same-length-3 c = c .before .before .before .before .before .before .before .before .before .before .before .before .before .before .before .before .before .before .before .before .before .before .before .draw-curves .kept .1 .1 .1 .1 .0
 
 same-length-4 : tie.Need-same-length-4
-same-length-4 c = c .before .before .before .before .before .before .before .before .before .before .before .before .before .before .before .before .before .before .draw-all .kept .1 .1 .1 .1 .1 .1 .0
+same-length-4 c = c .before .before .before .before .before .before .before .before .before .before .before .before .before .before .before .before .before .before .before .before .before .before .before .draw-curves .kept .1 .1 .1 .1 .1 .0
 
 same-length-5 : tie.Need-same-length-5
-same-length-5 c = c .before .before .before .before .before .before .before .before .before .before .before .before .before .before .before .before .before .before .draw-all .kept .1 .1 .1 .1 .1 .1 .1 .0
+same-length-5 c = c .before .before .before .before .before .before .before .before .before .before .before .before .before .before .before .draw-parents .kept .1 .1 .1 .1 .0
 
 same-length-6 : tie.Need-same-length-6
-same-length-6 c = c .before .before .before .before .before .before .before .before .before .before .before .before .before .before .before .before .before .before .draw-all .kept .1 .1 .1 .1 .1 .1 .1 .1 .0
+same-length-6 c = (c .before .before .before .before .before .before .before .before .clear-four .kept .0) ∙ (c .before .before .before .before .before .before .before .before .before .before .before .before .before .before .before .before .before .before .before .before .before .before .before .before .before .before .before .before .before .before .before .before .before .before .before .before .before .before .before .before .before .before .before .draw-lines .kept .1 .1 .1 .0) ∙ (c .before .before .before .before .before .before .before .before .before .before .before .before .before .before .before .before .before .before .before .before .before .before .before .before .before .before .before .before .before .before .before .before .before .before .before .before .before .before .before .before .before .before .before .before .before .before .before .before .before .before .before .before .name-cells .kept .1 .1 .1 .0)
 
 same-length-7 : tie.Need-same-length-7
-same-length-7 c = c .before .before .before .before .before .before .before .before .before .before .before .before .before .before .before .before .before .before .draw-all .kept .1 .1 .1 .1 .1 .1 .1 .1 .1 .0
+same-length-7 c = (c .before .before .before .before .before .before .before .before .clear-four .kept .1 .0) ∙ (c .before .before .before .before .before .before .before .before .before .before .before .before .before .before .before .before .before .before .before .before .before .before .before .before .before .before .before .before .before .before .before .before .keep-points .kept .1 .1 .1 .1 .0) ∙ (c .before .before .before .before .before .before .before .before .before .before .before .before .before .before .before .before .before .before .before .before .before .before .before .before .before .before .before .before .before .before .before .before .before .before .before .before .before .before .before .before .before .before .before .before .before .before .before .before .before .before .before .before .name-cells .kept .1 .1 .1 .1 .0)
 
 same-length-8 : tie.Need-same-length-8
-same-length-8 c = c .before .before .before .before .before .before .before .before .before .before .before .before .before .before .before .before .before .before .draw-all .kept .1 .1 .1 .1 .1 .1 .1 .1 .1 .1 .0
+same-length-8 c = (c .before .before .before .before .before .before .before .before .clear-four .kept .1 .1 .0) ∙ (c .before .before .before .before .before .before .before .before .before .before .before .before .before .before .before .before .before .before .before .before .before .before .before .before .before .before .before .before .before .before .before .before .keep-points .kept .1 .1 .1 .1 .1 .0)
 
 same-length-9 : tie.Need-same-length-9
-same-length-9 c = c .before .before .before .before .before .before .before .before .before .before .before .before .before .before .before .before .before .before .draw-all .kept .1 .1 .1 .1 .1 .1 .1 .1 .1 .1 .1 .0
+same-length-9 c = c .before .before .before .before .before .before .before .before .clear-four .kept .1 .1 .1 .0
 
-returns-4 : tie.Need-returns-4
-returns-4 c = draw-done _ _ _ _ _ (sym (c .before .before .before .before .before .before .before .before .before .before .before .before .before .before .before .before .before .before .before .before .before .before .before .before .before .before .before .before .before .before .before .before .within .ensures) ∙ not-false _ (c .before .before .before .before .before .before .before .before .before .before .before .before .before .before .before .before .before .before .before .before .before .before .before .before .before .before .before .before .before .before .before .if1 .left)) (c .before .before .before .before .before .before .before .before .before .before .before .before .before .before .before .before .before .before .before .before .before .before .before .before .before .before .before .before .before .before .if2 .left) (sym (stated-lengths _ _ _ _ _ _ _ _ _ _ _) ∙ sym (c .before .before .before .before .before .before .before .before .before .before .before .before .before .before .before .before .before .before .before .before .before .before .before .before .before .before .before .before .before .stated .ensures) ∙ not-false _ (c .before .before .before .before .before .before .before .before .before .before .before .before .before .before .before .before .before .before .before .before .before .before .before .before .before .before .before .before .if3 .left)) _ _ (c .before .before .before .before .before .before .before .before .before .before .before .before .before .before .before .before .before .before .draw-all .ensures .0) (c .before .before .before .before .before .before .before .before .before .before .before .before .before .before .before .before .before .before .draw-all .ensures .1)
+returns-2 : tie.Need-returns-2
+returns-2 c = done _ _ _ _ _ _ _ _ _ _ _ _ _ (c .before .before .before .before .before .before .before .before .before .before .before .before .before .before .before .before .before .before .before .before .before .before .before .before .before .before .before .before .before .before .before .before .before .before .before .before .before .before .before .before .before .before .before .before .before .before .before .before .before .before .before .before .before .before .before .before .before .refusal .ensures) (c .before .before .before .before .before .before .before .before .before .before .before .before .before .before .before .before .before .before .before .before .before .before .before .before .before .before .before .before .before .before .before .before .before .before .before .before .before .before .before .before .before .before .before .before .before .before .before .before .before .before .before .before .before .before .before .enum-told .given .1) _ _ (drawing-whole _ _ _ (fits _ _ _ _ _ _ _ _ _ _ _ _ _ (c .before .before .before .before .before .before .before .before .before .before .before .before .before .before .before .before .before .before .before .before .before .before .before .before .before .before .before .before .before .before .before .before .before .before .before .before .before .before .before .before .before .before .before .before .before .before .before .before .before .before .before .before .before .before .before .before .before .refusal .ensures) (c .before .before .before .before .before .before .before .before .before .before .before .before .before .before .before .before .before .before .before .before .before .before .before .before .before .before .before .before .before .before .before .before .before .before .before .before .before .before .before .before .before .before .before .before .before .before .before .before .before .before .before .before .before .before .before .enum-told .given .1)) _ _ _ _ _ _ _ _ _ (c .before .before .before .before .before .before .before .before .before .before .before .before .before .before .before .before .before .before .before .before .before .before .before .before .before .before .before .before .before .before .before .before .before .before .before .before .before .before .before .before .before .before .before .before .before .before .before .before .before .before .before .before .name-cells .ensures) (c .before .before .before .before .before .before .before .before .before .before .before .before .before .before .before .before .before .before .before .before .before .before .before .before .before .before .before .before .before .before .before .before .before .before .before .before .before .before .before .before .before .before .before .draw-lines .ensures) (c .before .before .before .before .before .before .before .before .before .before .before .before .before .before .before .before .before .before .before .before .before .before .before .before .before .before .before .before .before .before .before .before .keep-points .ensures) (c .before .before .before .before .before .before .before .before .before .before .before .before .before .before .before .before .before .before .before .before .before .before .before .draw-curves .ensures) (c .before .before .before .before .before .before .before .before .before .before .before .before .before .before .before .draw-parents .ensures)) (c .before .before .before .before .before .before .before .before .clear-four .ensures ∙ cleared-same _ _ _ _ _ _ _ _ ((c .before .before .before .before .before .before .before .before .before .before .before .before .before .before .before .before .before .before .before .before .before .before .before .before .before .before .before .before .before .before .before .before .before .before .before .before .before .before .before .before .before .before .before .draw-lines .kept .1 .1 .1 .0) ∙ (c .before .before .before .before .before .before .before .before .before .before .before .before .before .before .before .before .before .before .before .before .before .before .before .before .before .before .before .before .before .before .before .before .before .before .before .before .before .before .before .before .before .before .before .before .before .before .before .before .before .before .before .before .name-cells .kept .1 .1 .1 .0)) ((c .before .before .before .before .before .before .before .before .before .before .before .before .before .before .before .before .before .before .before .before .before .before .before .before .before .before .before .before .before .before .before .before .keep-points .kept .1 .1 .1 .1 .0) ∙ (c .before .before .before .before .before .before .before .before .before .before .before .before .before .before .before .before .before .before .before .before .before .before .before .before .before .before .before .before .before .before .before .before .before .before .before .before .before .before .before .before .before .before .before .before .before .before .before .before .before .before .before .before .name-cells .kept .1 .1 .1 .1 .0)) (c .before .before .before .before .before .before .before .before .before .before .before .before .before .before .before .before .before .before .before .before .before .before .before .before .before .before .before .before .before .before .before .before .keep-points .kept .1 .1 .1 .1 .1 .0) refl)
 
 pub draw-spec : {M : Type 1} → statement M
 draw-spec =
     tie.close
     (tie.spec
-    within-requires
+    refusal-requires
+    enum-told
     returns
-    mul-cells
-    cast-cells
-    returns-2
-    stated-requires
-    returns-3
-    draw-all-requires
+    name-cells-requires
+    draw-lines-requires
+    keep-points-requires
+    draw-curves-requires
+    draw-parents-requires
+    clear-four-requires
     same-length
     same-length-2
     same-length-3
@@ -83,4 +84,4 @@ draw-spec =
     same-length-7
     same-length-8
     same-length-9
-    returns-4)
+    returns-2)

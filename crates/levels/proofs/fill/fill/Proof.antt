@@ -50,20 +50,19 @@ add-framed-2 : tie.Need-add-framed-2
 add-framed-2 c = search needs
 
 name-cells-requires : tie.Need-name-cells-requires
-name-cells-requires c κs = search needs
+name-cells-requires c κs =
+    let s = c .before .before .before .before .before .before .before .before .before .before .pre in
+    (s .0, s .2, s .6, s .7)
 
 slice-reshare-prefix-numbered : tie.Need-slice-reshare-prefix-numbered
 unfolding points
 slice-reshare-prefix-numbered c =
     omega (
       arith,
-      c .before .before .before .before .before .before .before .before .before .before .before .before
-          .before .before .before .pre .7,
+      c .before .before .before .before .before .before .before .before .before .before .before .before .before .before .before .pre .7,
       c .before .before .before .before .name-cells .kept .1 .1 .1 .1 .0,
       surround-part
-          (c .before .before .before .before .before .before .before .before .before .before .before .before .before
-          .before .before .args .width) (c .before .before .before .before .before .before .before .before .before .before
-          .before .before .before .before .before .args .height),
+          (c .before .before .before .before .before .before .before .before .before .before .before .before .before .before .before .args .width) (c .before .before .before .before .before .before .before .before .before .before .before .before .before .before .before .args .height),
     )
 
 slice-aggregate-numbered : tie.Need-slice-aggregate-numbered
@@ -71,13 +70,9 @@ unfolding points
 slice-aggregate-numbered c =
     sym (length-take-le _ _ (omega (
       arith,
-      c .before .before .before .before .before .before .before .before .before
-          .before .before .before .before .before .before .before .pre .7,
-      c .before .before .before .before .before
-          .name-cells .kept .1 .1 .1 .1 .0,
-      surround-part (c .before .before .before .before .before .before .before .before
-          .before .before .before .before .before .before .before .before .args .width) (c .before .before .before .before
-          .before .before .before .before .before .before .before .before .before .before .before .before .args
+      c .before .before .before .before .before .before .before .before .before .before .before .before .before .before .before .before .pre .7,
+      c .before .before .before .before .before .name-cells .kept .1 .1 .1 .1 .0,
+      surround-part (c .before .before .before .before .before .before .before .before .before .before .before .before .before .before .before .before .args .width) (c .before .before .before .before .before .before .before .before .before .before .before .before .before .before .before .before .args
           .height),
     )))
 
@@ -86,12 +81,8 @@ unfolding points
 slice-relend-prefix-numbered c =
     omega (
       arith,
-      c .before .before .before .before .before .before .before .before .before .before .before .before
-          .before .before .before .before .before .pre .8,
-      points-part (c .before .before .before .before .before .before
-          .before .before .before .before .before .before .before .before .before .before .before .args .width) (c .before
-          .before .before .before .before .before .before .before .before .before .before .before .before .before .before
-          .before .before .args .height),
+      c .before .before .before .before .before .before .before .before .before .before .before .before .before .before .before .before .before .pre .8,
+      points-part (c .before .before .before .before .before .before .before .before .before .before .before .before .before .before .before .before .before .args .width) (c .before .before .before .before .before .before .before .before .before .before .before .before .before .before .before .before .before .args .height),
     )
 
 slice-aggregate-numbered-2 : tie.Need-slice-aggregate-numbered-2
@@ -99,12 +90,8 @@ unfolding points
 slice-aggregate-numbered-2 c =
     sym (length-take-le _ _ (omega (
       arith,
-      c .before .before .before .before .before .before .before .before .before
-          .before .before .before .before .before .before .before .before .before .pre .8,
-      points-part (c .before .before
-          .before .before .before .before .before .before .before .before .before .before .before .before .before .before
-          .before .before .args .width) (c .before .before .before .before .before .before .before .before .before .before
-          .before .before .before .before .before .before .before .before .args .height),
+      c .before .before .before .before .before .before .before .before .before .before .before .before .before .before .before .before .before .before .pre .8,
+      points-part (c .before .before .before .before .before .before .before .before .before .before .before .before .before .before .before .before .before .before .args .width) (c .before .before .before .before .before .before .before .before .before .before .before .before .before .before .before .before .before .before .args .height),
     )))
 
 slice-relend-prefix-numbered-2 : tie.Need-slice-relend-prefix-numbered-2
@@ -112,12 +99,9 @@ unfolding points
 slice-relend-prefix-numbered-2 c =
     omega (
       arith,
-      c .before .before .before .before .before .before .before .before .before .before .before .before
-          .before .before .before .before .before .before .pre .9,
-      points-part (c .before .before .before .before .before
-          .before .before .before .before .before .before .before .before .before .before .before .before .before .args
-          .width) (c .before .before .before .before .before .before .before .before .before .before .before .before
-          .before .before .before .before .before .before .args .height),
+      c .before .before .before .before .before .before .before .before .before .before .before .before .before .before .before .before .before .before .pre .9,
+      points-part (c .before .before .before .before .before .before .before .before .before .before .before .before .before .before .before .before .before .before .args
+          .width) (c .before .before .before .before .before .before .before .before .before .before .before .before .before .before .before .before .before .before .args .height),
     )
 
 slice-aggregate-numbered-3 : tie.Need-slice-aggregate-numbered-3
@@ -125,56 +109,36 @@ unfolding points
 slice-aggregate-numbered-3 c =
     sym (length-take-le _ _ (omega (
       arith,
-      c .before .before .before .before .before .before .before .before .before
-          .before .before .before .before .before .before .before .before .before .before .pre .9,
-      points-part (c .before
-          .before .before .before .before .before .before .before .before .before .before .before .before .before .before
-          .before .before .before .before .args .width) (c .before .before .before .before .before .before .before .before
-          .before .before .before .before .before .before .before .before .before .before .before .args .height),
+      c .before .before .before .before .before .before .before .before .before .before .before .before .before .before .before .before .before .before .before .pre .9,
+      points-part (c .before .before .before .before .before .before .before .before .before .before .before .before .before .before .before .before .before .before .before .args .width) (c .before .before .before .before .before .before .before .before .before .before .before .before .before .before .before .before .before .before .before .args .height),
     )))
 
 numbered-requires : tie.Need-numbered-requires
 unfolding points
 numbered-requires c κs =
-    let s = c .before .before .before .before .before .before .before .before .before .before .before .before
-    .before .before .before .before .before .before .before .before .before .before .pre in (
+    let s = c .before .before .before .before .before .before .before .before .before .before .before .before .before .before .before .before .before .before .before .before .before .before .pre in (
       s .0,
       s .1,
       length-take-le _ _ (omega (
         arith,
-        c .before .before .before .before .before .before .before .before
-            .before .before .before .before .before .before .before .before .before .before .before .before .before .before
-            .pre .7,
+        c .before .before .before .before .before .before .before .before .before .before .before .before .before .before .before .before .before .before .before .before .before .before .pre .7,
         c .before .before .before .before .before .before .before .before .before .before .before .name-cells
             .kept .1 .1 .1 .1 .0,
-        surround-part (c .before .before .before .before .before .before .before .before .before
-            .before .before .before .before .before .before .before .before .before .before .before .before .before .args
-            .width) (c .before .before .before .before .before .before .before .before .before .before .before .before
-            .before .before .before .before .before .before .before .before .before .before .args .height),
+        surround-part (c .before .before .before .before .before .before .before .before .before .before .before .before .before .before .before .before .before .before .before .before .before .before .args
+            .width) (c .before .before .before .before .before .before .before .before .before .before .before .before .before .before .before .before .before .before .before .before .before .before .args .height),
       )),
-      c .before
-          .before .before .before .before .before .before .before .before .before .before .name-cells .kept .1 .1 .1 .0 ∙
+      c .before .before .before .before .before .before .before .before .before .before .before .name-cells .kept .1 .1 .1 .0 ∙
           s .6,
       length-take-le _ _ (omega (
         arith,
-        c .before .before .before .before .before .before .before .before
-            .before .before .before .before .before .before .before .before .before .before .before .before .before .before
-            .pre .8,
-        points-part (c .before .before .before .before .before .before .before .before .before .before .before
-            .before .before .before .before .before .before .before .before .before .before .before .args .width) (c .before
-            .before .before .before .before .before .before .before .before .before .before .before .before .before .before
-            .before .before .before .before .before .before .before .args .height),
+        c .before .before .before .before .before .before .before .before .before .before .before .before .before .before .before .before .before .before .before .before .before .before .pre .8,
+        points-part (c .before .before .before .before .before .before .before .before .before .before .before .before .before .before .before .before .before .before .before .before .before .before .args .width) (c .before .before .before .before .before .before .before .before .before .before .before .before .before .before .before .before .before .before .before .before .before .before .args .height),
       )),
       length-take-le _ _ (omega (
         arith,
         c
-            .before .before .before .before .before .before .before .before .before .before .before .before .before .before
-            .before .before .before .before .before .before .before .before .pre .9,
-        points-part (c .before .before .before
-            .before .before .before .before .before .before .before .before .before .before .before .before .before .before
-            .before .before .before .before .before .args .width) (c .before .before .before .before .before .before .before
-            .before .before .before .before .before .before .before .before .before .before .before .before .before .before
-            .before .args .height),
+            .before .before .before .before .before .before .before .before .before .before .before .before .before .before .before .before .before .before .before .before .before .before .pre .9,
+        points-part (c .before .before .before .before .before .before .before .before .before .before .before .before .before .before .before .before .before .before .before .before .before .before .args .width) (c .before .before .before .before .before .before .before .before .before .before .before .before .before .before .before .before .before .before .before .before .before .before .args .height),
       )),
       s .3,
       s .4,
@@ -200,44 +164,23 @@ same-length-5 : tie.Need-same-length-5
 same-length-5 c = (c .before .before .before .before .before .before .before .before .clear-four .kept .1 .0) ∙ (c .before .before .before .before .before .before .before .before .before .before .before .before .before .before .before .before .before .before .before .before .before .before .before .before .before .before .before .before .before .before .before .before .before .before .before .before .before .name-cells .kept .1 .1 .1 .1 .0)
 
 same-length-6 : tie.Need-same-length-6
-same-length-6 c = search needs
+same-length-6 c = (c .before .before .before .before .before .before .before .before .clear-four .kept .1 .1 .0) ∙ length-front (c .before .before .before .before .before .before .before .before .before .before .before .before .before .before .before .before .before .before .before .before .before .before .before .before .before .before .before .before .before .before .before .before .before .before .before .before .before .before .before .before .before .before .before .before .before .before .before .before .args .c .now) (c .before .before .before .before .before .before .before .before .before .before .before .before .before .before .before .before .before .before .before .before .before .before .before .before .before .numbered .last .1 .1 .1 .1 .1 .0) ((c .before .before .before .before .before .before .before .before .before .before .before .before .before .before .before .before .before .before .before .before .before .before .before .before .before .before .before .before .before .before .before .before .before .before .before .before .before .before .before .before .before .before .before .before .before .before .before .before .args .width + 1) * (c .before .before .before .before .before .before .before .before .before .before .before .before .before .before .before .before .before .before .before .before .before .before .before .before .before .before .before .before .before .before .before .before .before .before .before .before .before .before .before .before .before .before .before .before .before .before .before .before .args .height + 1)) (c .before .before .before .before .before .before .before .before .before .before .before .before .before .before .before .before .before .before .before .before .before .before .before .before .before .numbered .kept .1 .1 .1 .1 .1 .0)
 
 same-length-7 : tie.Need-same-length-7
-same-length-7 c = search needs
+same-length-7 c = (c .before .before .before .before .before .before .before .before .clear-four .kept .1 .1 .1 .0) ∙ length-front (c .before .before .before .before .before .before .before .before .before .before .before .before .before .before .before .before .before .before .before .before .before .before .before .before .before .before .before .before .before .before .before .before .before .before .before .before .before .before .before .before .before .before .before .before .before .before .before .before .args .d .now) (c .before .before .before .before .before .before .before .before .before .before .before .before .before .before .before .before .before .before .before .before .before .before .before .before .before .numbered .last .1 .1 .1 .1 .1 .1 .0) ((c .before .before .before .before .before .before .before .before .before .before .before .before .before .before .before .before .before .before .before .before .before .before .before .before .before .before .before .before .before .before .before .before .before .before .before .before .before .before .before .before .before .before .before .before .before .before .before .before .args .width + 1) * (c .before .before .before .before .before .before .before .before .before .before .before .before .before .before .before .before .before .before .before .before .before .before .before .before .before .before .before .before .before .before .before .before .before .before .before .before .before .before .before .before .before .before .before .before .before .before .before .before .args .height + 1)) (c .before .before .before .before .before .before .before .before .before .before .before .before .before .before .before .before .before .before .before .before .before .before .before .before .before .numbered .kept .1 .1 .1 .1 .1 .1 .0)
 
 returns : tie.Need-returns
 unfolding points
 returns c =
-    let s = c .before .before .before .before .before .before .before .before .before .before .before .before
-    .before .before .before .before .before .before .before .before .before .before .before .before .before .before
-    .before .before .before .before .before .before .before .before .before .before .before .before .before .before
-    .before .before .before .before .before .before .before .before in
+    let s = c .before .before .before .before .before .before .before .before .before .before .before .before .before .before .before .before .before .before .before .before .before .before .before .before .before .before .before .before .before .before .before .before .before .before .before .before .before .before .before .before .before .before .before .before .before .before .before .before in
     let a = s .args in
     let n = (a .width + 1) * (a .height + 1) in (
-      filled-tables (a .width) (a .height) (a .level) (now (a .sheet)) _ _ (s .pre .0) (c .before .before .before
-          .before .before .before .before .before .before .before .before .before .before .before .before .before .before
-          .before .before .before .before .before .before .before .before .before .before .before .before .before .before
-          .before .before .before .before .before .before .name-cells .ensures) (c .before .before .before .before .before
-          .before .before .before .before .before .before .before .before .before .before .before .before .before .before
-          .before .before .before .before .before .before .numbered .ensures),
-      c .before .before .before .before .before
-          .before .before .before .clear-four .ensures ∙ cleared-same _ _ _ _ (a .a .now) (a .b .now) (a .c .now) (a .d .now) (c .before .before .before .before .before .before .before .before .before .before .before .before .before
-          .before .before .before .before .before .before .before .before .before .before .before .before .numbered .kept .1
-          .1 .1 .1 .0 ∙ c .before .before .before .before .before .before .before .before .before .before .before .before
-          .before .before .before .before .before .before .before .before .before .before .before .before .before .before
-          .before .before .before .before .before .before .before .before .before .before .before .name-cells .kept .1 .1
-          .1 .0) (c .before .before .before .before .before .before .before .before .before .before .before .before
-          .before .before .before .before .before .before .before .before .before .before .before .before .before .before
-          .before .before .before .before .before .before .before .before .before .before .before .name-cells .kept .1 .1
-          .1 .1 .0) (length-front (a .c .now) (c .before .before .before .before .before .before .before .before .before
-          .before .before .before .before .before .before .before .before .before .before .before .before .before .before
-          .before .before .numbered .last .1 .1 .1 .1 .1 .0) n (c .before .before .before .before .before .before .before
-          .before .before .before .before .before .before .before .before .before .before .before .before .before .before
-          .before .before .before .before .numbered .kept .1 .1 .1 .1 .1 .0)) (length-front (a .d .now) (c .before .before
-          .before .before .before .before .before .before .before .before .before .before .before .before .before .before
-          .before .before .before .before .before .before .before .before .before .numbered .last .1 .1 .1 .1 .1 .1 .0) n (c
-          .before .before .before .before .before .before .before .before .before .before .before .before .before .before
-          .before .before .before .before .before .before .before .before .before .before .before .numbered .kept .1 .1 .1
+      filled-tables (a .width) (a .height) (a .level) (now (a .sheet)) _ _ (s .pre .0) (c .before .before .before .before .before .before .before .before .before .before .before .before .before .before .before .before .before .before .before .before .before .before .before .before .before .before .before .before .before .before .before .before .before .before .before .before .before .name-cells .ensures) (c .before .before .before .before .before .before .before .before .before .before .before .before .before .before .before .before .before .before .before .before .before .before .before .before .before .numbered .ensures),
+      c .before .before .before .before .before .before .before .before .clear-four .ensures ∙ cleared-same _ _ _ _ (a .a .now) (a .b .now) (a .c .now) (a .d .now) (c .before .before .before .before .before .before .before .before .before .before .before .before .before .before .before .before .before .before .before .before .before .before .before .before .before .numbered .kept .1
+          .1 .1 .1 .0 ∙ c .before .before .before .before .before .before .before .before .before .before .before .before .before .before .before .before .before .before .before .before .before .before .before .before .before .before .before .before .before .before .before .before .before .before .before .before .before .name-cells .kept .1 .1
+          .1 .0) (c .before .before .before .before .before .before .before .before .before .before .before .before .before .before .before .before .before .before .before .before .before .before .before .before .before .before .before .before .before .before .before .before .before .before .before .before .before .name-cells .kept .1 .1
+          .1 .1 .0) (length-front (a .c .now) (c .before .before .before .before .before .before .before .before .before .before .before .before .before .before .before .before .before .before .before .before .before .before .before .before .before .numbered .last .1 .1 .1 .1 .1 .0) n (c .before .before .before .before .before .before .before .before .before .before .before .before .before .before .before .before .before .before .before .before .before .before .before .before .before .numbered .kept .1 .1 .1 .1 .1 .0)) (length-front (a .d .now) (c .before .before .before .before .before .before .before .before .before .before .before .before .before .before .before .before .before .before .before .before .before .before .before .before .before .numbered .last .1 .1 .1 .1 .1 .1 .0) n (c
+          .before .before .before .before .before .before .before .before .before .before .before .before .before .before .before .before .before .before .before .before .before .before .before .before .before .numbered .kept .1 .1 .1
           .1 .1 .1 .0)),
     )
 

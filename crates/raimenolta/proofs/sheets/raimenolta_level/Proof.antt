@@ -10,10 +10,10 @@ number-requires : tie.Need-number-requires
 number-requires c κs = search needs
 
 same-length : tie.Need-same-length
-same-length c = search needs
+same-length c = c .before .before .before .before .before .before .before .before .before .before .before .before .before .before .before .draw .kept .1 .1 .1 .1 .0
 
 same-length-2 : tie.Need-same-length-2
-same-length-2 c = search needs
+same-length-2 c = c .before .before .before .before .before .before .before .before .before .before .before .before .before .before .before .draw .kept .1 .1 .1 .1 .1 .0
 
 same-length-3 : tie.Need-same-length-3
 same-length-3 c = c .before .before .before .before .before .before .before .before .before .before .before .before .before .before .before .draw .kept .1 .1 .1 .1 .1 .1 .0
@@ -34,8 +34,7 @@ returns : tie.Need-returns
 unfolding told
 returns c =
     rw (c .number .ensures)
-    (c .before .before .before .before .before .before .before .before .before .before .before .before .before
-    .before .before .draw .ensures)
+    (c .before .before .before .before .before .before .before .before .before .before .before .before .before .before .before .draw .ensures)
 
 pub raimenolta-level-spec : {M : Type 1} → statement M
 raimenolta-level-spec =

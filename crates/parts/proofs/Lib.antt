@@ -1,0 +1,4 @@
+pub mod Paper
+pub mod Part
+pub mod Whole
+pub mod Stated

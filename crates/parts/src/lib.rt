@@ -1,0 +1,3 @@
+// The parts of a drawing: level 1, the points that level 3 keeps, level 3 and the parents; and the stated lengths.
+pub mod draw;
+pub mod lengths;
