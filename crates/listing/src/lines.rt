@@ -34,27 +34,21 @@ fn length_of(table: &[u16]) -> u16
     if n < MARK as usize { n as u16 } else { MARK }
 }
 
-// Puts a word on the page, and numbers, each after a blank.
-fn fields(page: &mut Page, at: usize, word: &[u8], numbers: &[u64]) -> usize
+// Puts a blank and a number on the page.
+fn field(page: &mut Page, at: usize, value: u16) -> usize
     requires { ⌜ at ≤ 65536 ⌝ }
     ensures { λ r. ⌜ r ≤ 65536 ⌝ }
 {
-    let mut to = text::bytes(page, at, word);
-    let mut i = 0;
-    while i < numbers.len() {
-        to = text::number(page, to, numbers[i]);
-        i += 1;
-    }
-    to
+    text::number(page, at, value as u64)
 }
 
 // The line of a refusal.
 pub(crate) fn refused(number: u16, card: u16) {
-    let refusal = [number as u64];
-    let place = [card as u64];
     let mut page = io::large_buffer();
-    let mut at = fields(&mut page, 0, b"REFUSED", &refusal);
-    at = fields(&mut page, at, b" CARD", &place);
+    let mut at = text::bytes(&mut page, 0, b"REFUSED");
+    at = field(&mut page, at, number);
+    at = text::bytes(&mut page, at, b" CARD");
+    at = field(&mut page, at, card);
     at = text::byte(&mut page, at, b'\n');
     text::write_out(&page, at);
 }
@@ -63,12 +57,13 @@ pub(crate) fn refused(number: u16, card: u16) {
 fn sheet_line(page: &mut Page, width: u16, height: u16, regions: usize, curves: usize) -> usize
     ensures { λ r. ⌜ r ≤ 65536 ⌝ }
 {
-    let size = [width as u64, height as u64];
-    let regions = [regions as u64];
-    let curves = [curves as u64];
-    let mut at = fields(page, 0, b"SHEET", &size);
-    at = fields(page, at, b" REGIONS", &regions);
-    at = fields(page, at, b" CURVES", &curves);
+    let mut at = text::bytes(page, 0, b"SHEET");
+    at = field(page, at, width);
+    at = field(page, at, height);
+    at = text::bytes(page, at, b" REGIONS");
+    at = text::number(page, at, regions as u64);
+    at = text::bytes(page, at, b" CURVES");
+    at = text::number(page, at, curves as u64);
     text::byte(page, at, b'\n')
 }
 
@@ -85,11 +80,13 @@ fn region_line(
     requires { ⌜ from ≤ 65536 ⌝ }
     ensures { λ r. ⌜ r ≤ 65536 ⌝ }
 {
-    let name = [name as u64];
-    let shown = [b' ', (label % 256) as u8];
-    let counts = [parent as u64, depth as u64, holes as u64];
-    let mut at = fields(page, from, b"R", &name);
-    at = fields(page, at, &shown, &counts);
+    let mut at = text::byte(page, from, b'R');
+    at = field(page, at, name);
+    at = text::byte(page, at, b' ');
+    at = text::byte(page, at, (label % 256) as u8);
+    at = field(page, at, parent);
+    at = field(page, at, depth);
+    at = field(page, at, holes);
     text::byte(page, at, b'\n')
 }
 
@@ -98,8 +95,11 @@ fn curve_line(page: &mut Page, from: usize, dart: u16, other: u16, side: u16, be
     requires { ⌜ from ≤ 65536 ⌝ }
     ensures { λ r. ⌜ r ≤ 65536 ⌝ }
 {
-    let curve = [dart as u64, other as u64, side as u64, beyond as u64];
-    let at = fields(page, from, b"C", &curve);
+    let mut at = text::byte(page, from, b'C');
+    at = field(page, at, dart);
+    at = field(page, at, other);
+    at = field(page, at, side);
+    at = field(page, at, beyond);
     text::byte(page, at, b'\n')
 }
 
