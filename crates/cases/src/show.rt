@@ -7,12 +7,12 @@ pub fn text(text: &[u8]) {
 }
 
 pub fn line_end() {
-    io::write_all(STDOUT_FILENO, b"\n");
+    text(b"\n");
 }
 
 // Writes a number, with a blank before it.
 pub fn number(value: u64) {
-    io::write_all(STDOUT_FILENO, b" ");
+    text(b" ");
     io::print_decimal(STDOUT_FILENO, value);
 }
 
@@ -45,7 +45,7 @@ pub fn bytes(values: &[u8]) {
 
 // Writes a table, in full or by its sum, after a semicolon.
 pub fn table(table: &[u16], full: bool) {
-    io::write_all(STDOUT_FILENO, b" ;");
+    text(b" ;");
     if full {
         labels(table);
         return;
@@ -56,17 +56,17 @@ pub fn table(table: &[u16], full: bool) {
 // Writes whether what was lent is as it was.
 pub fn kept(kept: bool) {
     if kept {
-        io::write_all(STDOUT_FILENO, b" kept");
+        text(b" kept");
     } else {
-        io::write_all(STDOUT_FILENO, b" changed");
+        text(b" changed");
     }
 }
 
 // Writes whether the work tables are all 0.
 pub fn cleared(cleared: bool) {
     if cleared {
-        io::write_all(STDOUT_FILENO, b" cleared");
+        text(b" cleared");
     } else {
-        io::write_all(STDOUT_FILENO, b" uncleared");
+        text(b" uncleared");
     }
 }

@@ -1,6 +1,7 @@
 use crate::lengths::Lengths;
 use crate::lent;
 use crate::show;
+use table::entry;
 
 // The five tables of a drawing, each with room for the longest.
 pub struct Tables {
@@ -46,6 +47,15 @@ pub fn given(lengths: &[u16], list: &[u16]) -> Tables {
     }
 }
 
+// Whether five tables are the same as five others.
+pub fn same(tables: Tables, others: Tables) -> bool {
+    entry::same(&tables.next1, &others.next1)
+        & entry::same(&tables.side1, &others.side1)
+        & entry::same(&tables.next3, &others.next3)
+        & entry::same(&tables.other3, &others.other3)
+        & entry::same(&tables.parent, &others.parent)
+}
+
 // Writes the five tables of a drawing, in full or by their sums.
 pub fn show(lengths: Lengths, tables: Tables, full: bool) {
     show::table(front(&tables.next1, lengths.next1), full);
@@ -62,33 +72,16 @@ pub fn untouched(table: &[u16; lent::ROOM]) -> bool {
 
 // Whether five tables are as they were before a call.
 pub fn all_untouched(tables: Tables) -> bool {
-    if !untouched(&tables.next1) {
-        return false;
-    }
-    if !untouched(&tables.side1) {
-        return false;
-    }
-    if !untouched(&tables.next3) {
-        return false;
-    }
-    if !untouched(&tables.other3) {
-        return false;
-    }
-    untouched(&tables.parent)
+    untouched(&tables.next1)
+        & untouched(&tables.side1)
+        & untouched(&tables.next3)
+        & untouched(&tables.other3)
+        & untouched(&tables.parent)
 }
 
 // Whether the work tables are as they were before a call.
 fn kept(works: Works) -> bool {
-    if !untouched(&works.a) {
-        return false;
-    }
-    if !untouched(&works.b) {
-        return false;
-    }
-    if !untouched(&works.c) {
-        return false;
-    }
-    untouched(&works.d)
+    untouched(&works.a) & untouched(&works.b) & untouched(&works.c) & untouched(&works.d)
 }
 
 // Whether a table is 0 up to a length.
@@ -98,16 +91,7 @@ fn clear(table: &[u16; lent::ROOM], length: usize) -> bool {
 
 // Whether the work tables are 0 up to their lengths.
 fn cleared(a: usize, b: usize, c: usize, d: usize, works: Works) -> bool {
-    if !clear(&works.a, a) {
-        return false;
-    }
-    if !clear(&works.b, b) {
-        return false;
-    }
-    if !clear(&works.c, c) {
-        return false;
-    }
-    clear(&works.d, d)
+    clear(&works.a, a) & clear(&works.b, b) & clear(&works.c, c) & clear(&works.d, d)
 }
 
 // Writes whether the work tables of a call, which have these lengths, are as they were, for the refusals 1 to 4, and else

@@ -55,6 +55,14 @@ fn longer(value: u32, digit: u8) -> u32
     value
 }
 
+// The value of a decimal digit; more than 9 for any other byte.
+fn digit(byte: u8) -> u8 {
+    if byte < b'0' {
+        return 255;
+    }
+    byte - b'0'
+}
+
 // The decimal number at a place, up to the first byte that is no digit.
 pub fn number(text: &[u8], from: usize) -> Parsed
     ensures { λ r. ⌜ r .next ≤ max from (length (now (text .entry))) ⌝ }
@@ -62,14 +70,11 @@ pub fn number(text: &[u8], from: usize) -> Parsed
     let mut value: u32 = 0;
     let mut i = from;
     while i < text.len() {
-        let byte = text[i];
-        if byte < b'0' {
+        let digit = digit(text[i]);
+        if 9 < digit {
             return Parsed { value, next: i };
         }
-        if b'9' < byte {
-            return Parsed { value, next: i };
-        }
-        value = longer(value, byte - b'0');
+        value = longer(value, digit);
         i += 1;
     }
     Parsed { value, next: i }
@@ -79,10 +84,9 @@ pub fn number(text: &[u8], from: usize) -> Parsed
 fn nibble(byte: u8) -> u8
     ensures { λ r. ⌜ r < 16 ⌝ }
 {
-    if b'0' <= byte {
-        if byte <= b'9' {
-            return byte - b'0';
-        }
+    let value = digit(byte);
+    if value < 10 {
+        return value;
     }
     if b'a' <= byte {
         if byte <= b'f' {

@@ -37,11 +37,6 @@ pub struct Counted {
 fn judge_of(size: Size, lengths: Lengths, tables: Tables) -> Judged
     requires { ⌜ Fits lengths ⌝ }
 {
-    let x = lengths.next1;
-    let s = lengths.side1;
-    let y = lengths.next3;
-    let o = lengths.other3;
-    let p = lengths.parent;
     let ka = lengths.a;
     let kb = lengths.b;
     let kc = lengths.c;
@@ -58,11 +53,11 @@ fn judge_of(size: Size, lengths: Lengths, tables: Tables) -> Judged
     let answer = judge::check(
         size.width,
         size.height,
-        &next1[..x],
-        &side1[..s],
-        &next3[..y],
-        &other3[..o],
-        &parent[..p],
+        tables::front(&next1, lengths.next1),
+        tables::front(&side1, lengths.side1),
+        tables::front(&next3, lengths.next3),
+        tables::front(&other3, lengths.other3),
+        tables::front(&parent, lengths.parent),
         &mut a[..ka],
         &mut b[..kb],
         &mut c[..kc],
@@ -118,11 +113,6 @@ fn show_one(name: u16, depth: u16, holes: u16) {
 fn counts_of(size: Size, m: usize, h: usize, lengths: Lengths, tables: Tables) -> Tallied
     requires { ⌜ Fits lengths × (m ≤ room) × (h ≤ room) ⌝ }
 {
-    let x = lengths.next1;
-    let s = lengths.side1;
-    let y = lengths.next3;
-    let o = lengths.other3;
-    let p = lengths.parent;
     let ka = lengths.a;
     let kb = lengths.b;
     let kc = lengths.c;
@@ -141,11 +131,11 @@ fn counts_of(size: Size, m: usize, h: usize, lengths: Lengths, tables: Tables) -
     let answer = count::counts(
         size.width,
         size.height,
-        &next1[..x],
-        &side1[..s],
-        &next3[..y],
-        &other3[..o],
-        &parent[..p],
+        tables::front(&next1, lengths.next1),
+        tables::front(&side1, lengths.side1),
+        tables::front(&next3, lengths.next3),
+        tables::front(&other3, lengths.other3),
+        tables::front(&parent, lengths.parent),
         &mut depths[..m],
         &mut holes[..h],
         &mut a[..ka],
@@ -213,11 +203,6 @@ fn show_counted(lengths: Lengths, counted: Counted) {
 fn depth_of(size: Size, name: u16, lengths: Lengths, tables: Tables) -> Counted
     requires { ⌜ Fits lengths ⌝ }
 {
-    let x = lengths.next1;
-    let s = lengths.side1;
-    let y = lengths.next3;
-    let o = lengths.other3;
-    let p = lengths.parent;
     let ka = lengths.a;
     let kb = lengths.b;
     let kc = lengths.c;
@@ -234,11 +219,11 @@ fn depth_of(size: Size, name: u16, lengths: Lengths, tables: Tables) -> Counted
     let answer = count::depth(
         size.width,
         size.height,
-        &next1[..x],
-        &side1[..s],
-        &next3[..y],
-        &other3[..o],
-        &parent[..p],
+        tables::front(&next1, lengths.next1),
+        tables::front(&side1, lengths.side1),
+        tables::front(&next3, lengths.next3),
+        tables::front(&other3, lengths.other3),
+        tables::front(&parent, lengths.parent),
         name,
         &mut a[..ka],
         &mut b[..kb],
@@ -264,11 +249,6 @@ pub(crate) fn depth(size: Size, name: u16, lengths: Lengths, tables: Tables)
 fn holes_of(size: Size, name: u16, lengths: Lengths, tables: Tables) -> Counted
     requires { ⌜ Fits lengths ⌝ }
 {
-    let x = lengths.next1;
-    let s = lengths.side1;
-    let y = lengths.next3;
-    let o = lengths.other3;
-    let p = lengths.parent;
     let ka = lengths.a;
     let kb = lengths.b;
     let kc = lengths.c;
@@ -285,11 +265,11 @@ fn holes_of(size: Size, name: u16, lengths: Lengths, tables: Tables) -> Counted
     let answer = count::holes(
         size.width,
         size.height,
-        &next1[..x],
-        &side1[..s],
-        &next3[..y],
-        &other3[..o],
-        &parent[..p],
+        tables::front(&next1, lengths.next1),
+        tables::front(&side1, lengths.side1),
+        tables::front(&next3, lengths.next3),
+        tables::front(&other3, lengths.other3),
+        tables::front(&parent, lengths.parent),
         name,
         &mut a[..ka],
         &mut b[..kb],

@@ -67,23 +67,6 @@ pub(crate) fn join(size: Size, first: u16, second: u16, lengths: Lengths, tables
     }
 }
 
-// Whether five tables are the same as five others.
-pub(crate) fn same(tables: Tables, others: Tables) -> bool {
-    if !entry::same(&tables.next1, &others.next1) {
-        return false;
-    }
-    if !entry::same(&tables.side1, &others.side1) {
-        return false;
-    }
-    if !entry::same(&tables.next3, &others.next3) {
-        return false;
-    }
-    if !entry::same(&tables.other3, &others.other3) {
-        return false;
-    }
-    entry::same(&tables.parent, &others.parent)
-}
-
 // Writes what a join answered: its number, of a refusal whether the five tables are as they were, and how the work tables
 // are left.
 fn show_answer(lengths: Lengths, before: Tables, joined: Joined) {
@@ -92,7 +75,7 @@ fn show_answer(lengths: Lengths, before: Tables, joined: Joined) {
     let works = joined.works;
     show::label(number);
     if number != 0 {
-        show::kept(same(before, tables));
+        show::kept(tables::same(before, tables));
     }
     tables::show_works(number, lengths.a, lengths.b, lengths.c, lengths.d, works);
 }

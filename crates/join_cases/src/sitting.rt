@@ -130,7 +130,7 @@ fn show_standing(size: Size, lengths: Lengths, names: &[u16], standing: Standing
         regions_left(tables::front(&tables.parent, lengths.parent)),
     );
     let fresh = drawn::draw(size, names, lengths).tables;
-    show_same(one::same(tables, fresh));
+    show_same(tables::same(tables, fresh));
     tables::show(lengths, tables, false);
 }
 

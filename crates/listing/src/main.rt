@@ -18,9 +18,7 @@ ghost use Rattle.plane.specs.Dart.{slots};
 // The greatest width and the greatest height.
 const WIDEST: usize = size::WIDEST as usize;
 
-// The most names of a sheet, that of the outside among them, and the most slots of darts.
-const NAMES: usize = CELLS + 1;
-
+// The most slots of darts of a sheet, which are more than its names.
 const SLOTS: usize = 4 * (WIDEST + 1) * (WIDEST + 1);
 
 // The bytes of the longest deck, and one more, so that bytes after its last card are seen.
@@ -32,25 +30,25 @@ struct Tables {
     side1: [u16; SLOTS],
     next3: [u16; SLOTS],
     other3: [u16; SLOTS],
-    parent: [u16; NAMES],
+    parent: [u16; SLOTS],
 }
 
 // What the counts answered: the refusal's number, depth and hole count of each name.
 struct Counted {
     number: u16,
-    depths: [u16; NAMES],
-    holes: [u16; NAMES],
+    depths: [u16; SLOTS],
+    holes: [u16; SLOTS],
 }
 
 // Draws a sheet. One that was read is not refused; were it, the tables would be no drawing.
 fn draw(width: u16, height: u16, sheet: &[u16], slots: usize, names: usize) -> Tables
-    requires { ⌜ (slots ≤ 21316) × (names ≤ 5185) ⌝ }
+    requires { ⌜ (slots ≤ 21316) × (names ≤ 21316) ⌝ }
 {
     let mut next1 = [0u16; SLOTS];
     let mut side1 = [0u16; SLOTS];
     let mut next3 = [0u16; SLOTS];
     let mut other3 = [0u16; SLOTS];
-    let mut parent = [0u16; NAMES];
+    let mut parent = [0u16; SLOTS];
     let mut a = [0u16; SLOTS];
     let mut b = [0u16; SLOTS];
     let mut c = [0u16; SLOTS];
@@ -78,17 +76,26 @@ fn draw(width: u16, height: u16, sheet: &[u16], slots: usize, names: usize) -> T
     }
 }
 
+// The entries of a table up to a length.
+fn front(table: &[u16; SLOTS], length: usize) -> &[u16] {
+    let whole: &[u16] = table;
+    if length < whole.len() {
+        return &whole[..length];
+    }
+    whole
+}
+
 // Counts the depths and holes of a drawing.
 fn count(width: u16, height: u16, slots: usize, names: usize, tables: Tables) -> Counted
-    requires { ⌜ (slots ≤ 21316) × (names ≤ 5185) ⌝ }
+    requires { ⌜ (slots ≤ 21316) × (names ≤ 21316) ⌝ }
 {
     let next1 = tables.next1;
     let side1 = tables.side1;
     let next3 = tables.next3;
     let other3 = tables.other3;
     let parent = tables.parent;
-    let mut depths = [0u16; NAMES];
-    let mut holes = [0u16; NAMES];
+    let mut depths = [0u16; SLOTS];
+    let mut holes = [0u16; SLOTS];
     let mut a = [0u16; SLOTS];
     let mut b = [0u16; SLOTS];
     let mut c = [0u16; SLOTS];
@@ -96,11 +103,11 @@ fn count(width: u16, height: u16, slots: usize, names: usize, tables: Tables) ->
     let answer = counts::count::counts(
         width,
         height,
-        &next1[..slots],
-        &side1[..slots],
-        &next3[..slots],
-        &other3[..slots],
-        &parent[..names],
+        front(&next1, slots),
+        front(&side1, slots),
+        front(&next3, slots),
+        front(&other3, slots),
+        front(&parent, names),
         &mut depths[..names],
         &mut holes[..names],
         &mut a[..slots],
@@ -115,17 +122,9 @@ fn count(width: u16, height: u16, slots: usize, names: usize, tables: Tables) ->
     }
 }
 
-// The entries of a table up to a length.
-fn front(table: &[u16], length: usize) -> &[u16] {
-    if length < table.len() {
-        return &table[..length];
-    }
-    table
-}
-
 // Lists a drawing. One of a sheet that was read is not refused; were it, there would be no listing.
 fn list_drawing(width: u16, height: u16, sheet: &[u16], slots: usize, names: usize, tables: Tables)
-    requires { ⌜ (slots ≤ 21316) × (names ≤ 5185) ⌝ }
+    requires { ⌜ (slots ≤ 21316) × (names ≤ 21316) ⌝ }
 {
     let counted = count(width, height, slots, names, tables);
     if counted.number != 0 {
