@@ -17,12 +17,6 @@ pub struct Pace {
     pub stride: u16,
 }
 
-// What a sitting has come to: how many joins were done, and the tables after them.
-pub struct Standing {
-    pub done: u64,
-    pub tables: Tables,
-}
-
 // The names on the two sides of a dart.
 pub struct Sides {
     pub right: u16,
@@ -121,56 +115,38 @@ fn show_count(done: u64, left: u16) {
 
 // Writes how a sitting stands: how many joins were done, how many regions are left, whether the tables are those drawn
 // afresh, and their sums.
-fn show_standing(size: Size, lengths: Lengths, names: &[u16], standing: Standing)
+fn show_standing(size: Size, lengths: Lengths, names: &[u16], done: u64, tables: Tables)
     requires { ⌜ Fits lengths ⌝ }
 {
-    let tables = standing.tables;
-    show_count(
-        standing.done,
-        regions_left(tables::front(&tables.parent, lengths.parent)),
-    );
+    let left = regions_left(tables::front(&tables.parent, lengths.parent));
+    show_count(done, left);
     let fresh = drawn::draw(size, names, lengths).tables;
     show_same(tables::same(tables, fresh));
     tables::show(lengths, tables, false);
 }
 
-// Whether so many joins are a multiple of a number.
-fn is_due(done: u64, every: u16) -> bool {
+// Whether a join was done, and so many joins are a multiple of a number.
+fn is_due(number: u16, done: u64, every: u16) -> bool {
+    if number != 0 {
+        return false;
+    }
     if every == 0 {
         return false;
     }
     done % every as u64 == 0
 }
 
-// Joins the regions on the two sides of a dart, and writes how the sitting stands where that is due.
-fn turn(
-    size: Size,
-    lengths: Lengths,
-    every: u16,
-    sides: Sides,
-    names: &mut [u16],
-    standing: Standing,
-) -> Standing
-    requires { ⌜ Fits lengths × (standing .done < 4294967296) ⌝ }
-    ensures { λ r. ⌜ r .done ≤ standing .done + 1 ⌝ }
+// How many joins were done after one more, which lowers the names of the cells; a refusal is written.
+fn counted_on(number: u16, sides: Sides, names: &mut [u16], done: u64) -> u64
+    requires { ⌜ done < 4294967296 ⌝ }
+    ensures { λ r. ⌜ r ≤ done + 1 ⌝ }
 {
-    let before = standing.tables;
-    let joined = one::join(size, sides.right, sides.left, lengths, before);
-    let tables = joined.tables;
-    if joined.number != 0 {
-        show_refusal(joined.number);
-        return Standing {
-            done: standing.done,
-            tables,
-        };
+    if number != 0 {
+        show_refusal(number);
+        return done;
     }
     lower(sides, names);
-    let done = standing.done + 1;
-    let now = Standing { done, tables };
-    if is_due(done, every) {
-        show_standing(size, lengths, names, now);
-    }
-    now
+    done + 1
 }
 
 // The slot so many numbers after a slot, round the end.
@@ -181,22 +157,29 @@ fn stride_on(number: u16, stride: u16, slots: u16) -> u16 {
     ((number as u32 + stride as u32) % slots as u32 % 65536) as u16
 }
 
-// A sitting over a drawing: every slot is visited, each a stride after the one before.
+// A sitting over a drawing: every slot is visited, each a stride after the one before, and the regions on the two sides
+// of its dart are joined.
 pub(crate) fn sit(size: Size, lengths: Lengths, pace: Pace, names: &mut [u16], tables: Tables)
     requires { ⌜ Fits lengths ⌝ }
 {
     let slots = lent::slots(size.width, size.height);
-    let mut standing = Standing { done: 0, tables };
+    let mut joined = tables;
+    let mut done: u64 = 0;
     let mut number: u16 = 0;
     let mut i: u16 = 0;
     while i < slots {
-        let side1 = tables::front(&standing.tables.side1, lengths.side1);
+        let side1 = tables::front(&joined.side1, lengths.side1);
         let sides = sides_of(size, side1, number);
         number = stride_on(number, pace.stride, slots);
         i += 1;
         if are_regions(sides) {
-            standing = turn(size, lengths, pace.every, sides, names, standing);
+            let answer = one::join(size, sides.right, sides.left, lengths, joined);
+            joined = answer.tables;
+            done = counted_on(answer.number, sides, names, done);
+            if is_due(answer.number, done, pace.every) {
+                show_standing(size, lengths, names, done, joined);
+            }
         }
     }
-    show_standing(size, lengths, names, standing);
+    show_standing(size, lengths, names, done, joined);
 }
