@@ -1,3 +1,1 @@
-pub mod Closing
-pub mod Going
-pub mod Splicing
+mod Closing

@@ -1,6 +1,6 @@
 use crate::near;
-use crate::shared;
 use removal::back;
+use sharing::shared;
 ghost use mathlib.Core.Path.{_≡_};
 ghost use mathlib.Core.Bool.{true};
 ghost use Prim.Native.Nat.{_<_};
@@ -10,8 +10,8 @@ ghost use Rattle.plane.specs.Size.{within};
 ghost use Rattle.plane.specs.Dart.{mark, slots, reversal};
 ghost use Rattle.removal.specs.Links.{links};
 ghost use Rattle.dropping.specs.Dropped.{dropped};
-ghost use Rattle.dropping.specs.Listed.{Bounded};
-ghost use Rattle.dropping.specs.Mapped.{Mapped};
+ghost use Rattle.sharing.specs.Listed.{Bounded};
+ghost use Rattle.sharing.specs.Mapped.{Mapped};
 
 // Steps 1 and 2 at a level: the darts with the sides a and b go, then hanging ends. The list has the darts with side a or
 // b that have a next. Taken and leaps are work.

@@ -1,5 +1,3 @@
-// The first two steps of the removal rule where two regions are joined: only the darts of the two are visited.
+// Steps 1 and 2 of the removal rule at a level: the lines that two regions share go, then hanging ends.
 pub mod drop;
-pub mod list;
 mod near;
-mod shared;

@@ -12,7 +12,7 @@ ghost use Rattle.plane.specs.Dart.{mark, slots};
 ghost use Rattle.rules.specs.Turn.{kinding};
 ghost use Rattle.paper.specs.Joining.{hanging, pruned};
 ghost use Rattle.removal.specs.Links.{links};
-ghost use Rattle.dropping.specs.Listed.{bare, Watched};
+ghost use Rattle.dropping.specs.Watched.{bare, Watched};
 
 // Whether a dart has no next and one dart alone leaves its point.
 fn is_bare(kinds: &[u16; 16], next: &[u16], dart: u16) -> bool

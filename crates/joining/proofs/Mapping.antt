@@ -22,7 +22,7 @@ use Rattle.paper.proofs.Kept.{sheet-loops}
 use Rattle.paper.proofs.Held.{level-alone}
 use Rattle.paper.proofs.Removed.{Reads, on-links}
 use Rattle.paper.proofs.Drawn.{sheet-plane, anchors, drawn-reads, level-reads}
-use Rattle.dropping.specs.Mapped.{Mapped}
+use Rattle.sharing.specs.Mapped.{Mapped}
 
 module _ {w h : ℕ} {x : Map} {l : Links} {s : List ℕ} (c : Chart x) (r : Reads w h x l s) (room : slots w h ≤ mark) where
   open Map x using (nx, rev)

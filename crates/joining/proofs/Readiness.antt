@@ -15,7 +15,7 @@ use Rattle.paper.specs.Refusal.{stated, used}
 use Rattle.paper.proofs.Sheet.{border-below}
 use Rattle.paper.proofs.Marks.{on-marked, cells-slots, within-fits, names-side-small}
 use Rattle.parts.proofs.Stated.{stated-parent}
-use Rattle.dropping.specs.Mapped.{Mapped}
+use Rattle.sharing.specs.Mapped.{Mapped}
 use Rattle.joining.specs.Apply.{Ready}
 use Rattle.joining.proofs.Fewer.{marked-held, on-below}
 use Rattle.joining.proofs.Mapping.{plain-mapped, curves-mapped}

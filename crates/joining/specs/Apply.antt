@@ -11,7 +11,7 @@ use Rattle.plane.specs.Dart.{mark, slots, reversal}
 use Rattle.paper.specs.Drawing.{Tables}
 use Rattle.paper.specs.Joining.{on}
 use Rattle.paper.specs.Refusal.{stated}
-use Rattle.dropping.specs.Mapped.{Mapped}
+use Rattle.sharing.specs.Mapped.{Mapped}
 
 pub record Ready (w h : ℕ) (t : Tables) (ws : List (List ℕ)) (a b : ℕ) : Type 0 where
   pub size : within w h ≡ true

@@ -1,10 +1,10 @@
 use closing::close;
-use closing::smooth;
 use dropping::drop;
-use dropping::list;
 use enclosure::parent;
 use lowering::side;
 use pieces::points;
+use sharing::list;
+use smoothing::smooth;
 use table::entry;
 ghost use mathlib.Core.Path.{_≡_};
 ghost use mathlib.Core.Bool.{true};

@@ -14,25 +14,16 @@ use Rattle.paper.specs.Joining.{on}
 use Rattle.paper.specs.Refusal.{levelTables}
 use Rattle.paper.proofs.Marks.{within-fits}
 use Rattle.framing.specs.Frame.{framed}
-use Rattle.masks.specs.Mask.{masked, ruled}
+use Rattle.masks.specs.Mask.{masked, plainMasks}
 use Rattle.lines.specs.Line.{nexts, others}
 use Rattle.sides.specs.Side.{sides}
 use Rattle.keeping.specs.Keep.{bends, keeps}
 use Rattle.curves.specs.Link.{alongNext, alongOther, alongSide}
-use Rattle.levels.specs.Tables.{plainTables, alongTables, plainMasks, keptPoints, tablesOf}
+use Rattle.levels.specs.Tables.{plainTables, alongTables, keptPoints, tablesOf}
 use Rattle.levels.proofs.Paper.{levelTables-paper}
 
+-- the points that are kept, f being the sides of level 1
 module _ (w h l : ℕ) (f m : List ℕ) where
-  -- the lines of a plain level
-  pub ruled-masks : l ≡ 0 → m ≡ ruled w h → m ≡ plainMasks w h l f
-  unfolding plainMasks
-  ruled-masks e q = rw (eq-eqb l 0 e) q
-
-  pub masked-masks : l ≢ 0 → m ≡ masked w h f → m ≡ plainMasks w h l f
-  unfolding plainMasks
-  masked-masks e q = rw (ne-eqb l 0 e) q
-
-  -- the points that are kept, f being the sides of level 1
   pub bends-points : (k : List ℕ) → l ≡ 2 → k ≡ bends w h m → k ≡ keptPoints w h l m f
   unfolding keptPoints
   bends-points k e q = rw (eq-eqb l 2 e) q

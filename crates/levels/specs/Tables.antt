@@ -1,7 +1,6 @@
 -- The tables of a level (the paper, "The four levels").
 --   plainTables ..  == next, other and side of a level with the lines m whose points are all kept
 --   alongTables ..  == next, other and side of the level with level 1 next x and sides s that keeps the points k
---   plainMasks w h l f == the lines at each point: of level 0, else of level 1
 --   keptPoints ..   == the points that level 2 keeps, else level 3, from the lines m of level 1 and their sides s
 --   tablesOf w h l f == next, other and side of level l, from the names f with the outside round them
 use mathlib.Core.Bool.{cond}
@@ -23,9 +22,6 @@ unfoldable pub alongTables : ℕ → ℕ → List ℕ → List ℕ → List ℕ 
 alongTables w h x k s =
     let y = alongNext w h x k in
     y ∷ alongOther w h x k ∷ alongSide y s ∷ []
-
-unfoldable pub plainMasks : ℕ → ℕ → ℕ → List ℕ → List ℕ
-plainMasks w h l f = cond (eqb l 0) (ruled w h) (masked w h f)
 
 unfoldable pub keptPoints : ℕ → ℕ → ℕ → List ℕ → List ℕ → List ℕ
 keptPoints w h l m s = cond (eqb l 2) (bends w h m) (keeps w h m (tops w h (on s)))

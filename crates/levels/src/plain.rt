@@ -8,22 +8,7 @@ ghost use Prim.Native.Nat.{_+_, _<_};
 ghost use lib.ListN.{length};
 ghost use Rattle.plane.specs.Size.{within};
 ghost use Rattle.plane.specs.Dart.{points, slots};
-ghost use Rattle.levels.specs.Tables.{plainMasks, tablesOf};
-
-// The lines of level 0 or 1 at each point.
-fn draft(width: u16, height: u16, level: u16, framed: &[u16], masks: &mut [u16])
-    requires { ⌜
-        (within width height ≡ true) × (length (now framed) ≡ points width height + width + 2) ×
-        (length (now masks) ≡ points width height)
-        ⌝ }
-    ensures { λ _. ⌜ now (masks .exit) ≡ plainMasks width height level (now (framed .entry)) ⌝ }
-{
-    if level == 0 {
-        mask::rule(width, height, masks);
-        return;
-    }
-    mask::masks(width, height, framed, masks);
-}
+ghost use Rattle.levels.specs.Tables.{tablesOf};
 
 // Level 0 or 1, which keep every point.
 pub fn plain(
@@ -46,7 +31,7 @@ pub fn plain(
         tablesOf width height level (now (framed .entry))
         ⌝ }
 {
-    draft(width, height, level, framed, masks);
+    mask::draft(width, height, level, framed, masks);
     line::nexts(width, height, masks, next);
     line::others(width, height, masks, other);
     side::sides(width, height, framed, masks, side);

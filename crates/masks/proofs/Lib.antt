@@ -1,1 +1,2 @@
+mod Drafting
 pub mod Ruling

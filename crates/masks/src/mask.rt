@@ -7,7 +7,7 @@ ghost use lib.ListN.{length};
 ghost use Rattle.laws.specs.Table.{number};
 ghost use Rattle.plane.specs.Size.{within};
 ghost use Rattle.plane.specs.Dart.{points};
-ghost use Rattle.masks.specs.Mask.{around, masked, ruled};
+ghost use Rattle.masks.specs.Mask.{around, masked, ruled, plainMasks};
 
 // The four cells round a point, from the names with the outside round them.
 pub fn around(width: u16, framed: &[u16], p: u16) -> [[u16; 2]; 2]
@@ -77,4 +77,19 @@ pub fn rule(width: u16, height: u16, masks: &mut [u16])
             y += 1;
         }
     }
+}
+
+// The lines of level 0 or 1 at each point.
+pub fn draft(width: u16, height: u16, level: u16, framed: &[u16], lines: &mut [u16])
+    requires { ⌜
+        (within width height ≡ true) × (length (now framed) ≡ points width height + width + 2) ×
+        (length (now lines) ≡ points width height)
+        ⌝ }
+    ensures { λ _. ⌜ now (lines .exit) ≡ plainMasks width height level (now (framed .entry)) ⌝ }
+{
+    if level == 0 {
+        rule(width, height, lines);
+        return;
+    }
+    masks(width, height, framed, lines);
 }

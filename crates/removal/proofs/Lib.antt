@@ -1,3 +1,4 @@
+pub mod Going
 pub mod Pruning
 pub mod Reversals
 pub mod Taking

@@ -6,7 +6,7 @@ use Rattle.paper.specs.Joining.{on, close, closes}
 use Rattle.plane.proofs.Fit.{points-fit, darts-fit}
 use Rattle.removal.specs.Links.{links}
 use Rattle.closing.proofs.Closing.{closes-none, closes-more}
-use Rattle.closing.proofs.Going.{Going, going-start, going-on, going-end}
+use Rattle.removal.proofs.Going.{Going, going-start, going-on, going-end}
 use Rattle.closing.proofs.close.close.Statement.{statement}
 use Rattle.closing.proofs.close.close.Tie as tie
 

@@ -2,7 +2,7 @@ use mathlib.Core.Path.{sym, _∙_}
 use Rattle.plane.specs.Dart.{mark, points}
 use Rattle.plane.proofs.Fit.{points-fit}
 use Rattle.plane.specs.Dart.{slots}
-use Rattle.dropping.specs.Listed.{Watched}
+use Rattle.dropping.specs.Watched.{Watched}
 use Rattle.dropping.proofs.Watching.{Looked, looked-none, looked-more, looked-all, found-hanging}
 use Prim.Native.Nat.{_-_}
 use native.Mathlib.Omega.{arith}

@@ -1,0 +1,316 @@
+-- Step 1, in place: next led past the darts with the sides a and b, then these darts unlinked.
+--   Mapped s n o    == the links n, o with the sides s are those of a map
+--   led s l a b d   == the next of dart d, past the darts with the sides a and b, which keep theirs
+--   leaping l f d   == where a chase goes on from dart d
+use mathlib.Core.Path.{_≡_, refl, sym, _∙_, ap}
+use mathlib.Core.Bool.{Bool, true, false, cond, not, _&&_}
+use mathlib.Core.List.{List}
+use Prim.Native.Nat.{ℕ, _≤_, _<_}
+use native.Mathlib.Decide.{decLt}
+use native.Mathlib.Omega.{arith}
+use lib.Dec.{eqb}
+use lib.ListN.{length, getD}
+use borrow.Author.Tests.{eq-eqb, ne-eqb, eqb-true, not-false}
+use Rattle.laws.specs.Table.{table}
+use Rattle.laws.proofs.Table.{length-table, getD-table, table-agree}
+use Rattle.laws.proofs.Test.{clash}
+use Rattle.plane.specs.Dart.{mark, slots}
+use Rattle.paper.specs.Level.{marked}
+use Rattle.paper.specs.Joining.{Links, at, on, shared, chase, removed}
+use Rattle.paper.proofs.Marks.{at-below, at-past}
+use Rattle.curves.specs.Link.{alongSide}
+use Rattle.table.proofs.Entries.{at-in, at-entry, at-out, on-mark, on-entry}
+use Rattle.table.proofs.Half.{Half, half-here}
+use Rattle.removal.specs.Links.{links}
+use Rattle.removal.specs.Taken.{leaping}
+use Rattle.removal.proofs.Taking.{chases-left, chase-hops}
+use Rattle.sharing.specs.Led.{led}
+use Rattle.sharing.specs.Listed.{bounds, Bounded}
+use Rattle.sharing.specs.Mapped.{Mapped}
+use Rattle.sharing.proofs.Sharing.{shared-past, away-apart, shared-other}
+
+-- an entry that is off is the mark, and one that is on lies in the table
+pub off-mark : (t : List ℕ) (d : ℕ) → on t d ≡ false → at t d ≡ mark
+unfolding on
+off-mark t d e = eqb-true (at t d) mark (not-false (eqb (at t d) mark) e)
+
+pub on-inside : (t : List ℕ) (d : ℕ) → on t d ≡ true → d < length t
+on-inside t d e = go (decLt d (length t))
+  where
+    go : Dec (d < length t) → d < length t
+    go (yes b) = b
+    go (no b) = clash e (on-mark t d (sym (at-out t d (omega arith))))
+
+-- an entry, read
+module _ (t : List ℕ) (d : ℕ) (b : d < length t) where
+  pub read-on : (getD t d 0 ≡ mark → ⊥) → on t d ≡ true
+  read-on e = on-entry t d (λ z. e (sym (at-entry t d b) ∙ z))
+
+  pub read-off : getD t d 0 ≡ mark → on t d ≡ false
+  read-off e = on-mark t d (at-entry t d b ∙ e)
+
+-- a next gives way to the mark
+pub gone-mark : (c : Bool) (x y : ℕ) → c ≡ true → x ≡ cond c x y
+gone-mark c x y e = rw e
+
+pub gone-next : (c : Bool) (x y : ℕ) → c ≡ false → y ≡ cond c x y
+gone-next c x y e = rw e
+
+-- a dart with neither side, or with no next, keeps what it has
+pub away-keeps : (s : List ℕ) (o : ℕ → ℕ) (a b x d : ℕ) → bounds s a b d ≡ false
+    → cond (shared s o a b d) mark x ≡ x
+away-keeps s o a b x d e = rw (away-apart s o a b d e)
+
+off-keeps : (c : Bool) (x : ℕ) → x ≡ mark → cond c mark x ≡ x
+off-keeps true x e = sym e
+off-keeps false x e = refl
+
+pub unlisted-keeps : (s n : List ℕ) (o : ℕ → ℕ) (a b m f : ℕ) (t : List ℕ) (g : Bounded s n a b m f t) (d : ℕ)
+    → g .test d ≡ false → cond (shared s o a b d) mark (at n d) ≡ at n d
+unlisted-keeps s n o a b m f t g d e = go (bounds s a b d) (on n d) refl refl
+  where
+    go : (x y : Bool) → bounds s a b d ≡ x → on n d ≡ y → cond (shared s o a b d) mark (at n d) ≡ at n d
+    go false y p q = away-keeps s o a b (at n d) d p
+    go true true p q = clash (g .all d p q) e
+    go true false p q = off-keeps (shared s o a b d) (at n d) (off-mark n d q)
+
+pub unlink-here : (s : List ℕ) (o : ℕ → ℕ) (a b d x y r : ℕ) → x ≡ y → r ≡ cond (shared s o a b d) mark y
+    → r ≡ cond (shared s o a b d) mark x
+unlink-here s o a b d x y r e f = f ∙ rw e
+
+-- where a chase goes on
+module _ (l : Links) (f : ℕ → Bool) (d : ℕ) where
+  pub leaps-on : f d ≡ true → at (l .next) (at (l .other) d) ≡ leaping l f d
+  unfolding leaping
+  leaps-on e = rw e
+
+  pub leaps-not : f d ≡ false → d ≡ leaping l f d
+  unfolding leaping
+  leaps-not e = rw e
+
+  pub goes-on : (x r : ℕ) → x ≡ at (l .other) d → r ≡ at (l .next) x → f d ≡ true → r ≡ leaping l f d
+  goes-on x r p q e = q ∙ ap (at (l .next)) p ∙ leaps-on e
+
+-- from each dart to the one after it
+pub chase-four : (l : Links) (f : ℕ → Bool) (d x y z r : ℕ) → x ≡ leaping l f d → y ≡ leaping l f x → z ≡ leaping l f y
+    → r ≡ leaping l f z → r ≡ chase l f d
+chase-four l f d x y z r p q u v =
+    v ∙ ap (leaping l f) (u ∙ ap (leaping l f) (q ∙ ap (leaping l f) p)) ∙ sym (chase-hops l f d)
+
+-- a dart that a chase does not go on from
+pub chase-rests : (l : Links) (f : ℕ → Bool) (d x : ℕ) → x ≡ leaping l f d → x ≡ d → d ≡ chase l f d
+chase-rests l f d x p e = let q = sym e ∙ p in chase-four l f d d d d d q q q q
+
+pub chase-still : (l : Links) (f : ℕ → Bool) (d : ℕ) → f d ≡ false → chase l f d ≡ d
+unfolding chase
+chase-still l f d e = chases-left l f 4 d e
+
+-- the next of a dart, by whether it has the sides a and b
+module _ (s : List ℕ) (l : Links) (a b d x : ℕ) (e : x ≡ at (l .next) d) where
+  pub led-keeps : shared s (at (l .other)) a b d ≡ true → x ≡ led s l a b d
+  unfolding led
+  led-keeps h = rw h e
+
+  pub led-past : shared s (at (l .other)) a b d ≡ false → (r : ℕ) → r ≡ chase l (shared s (at (l .other)) a b) x
+      → r ≡ led s l a b d
+  unfolding led
+  led-past h r f = f ∙ rw (h, e)
+
+-- In a map.
+module _ (s n o : List ℕ) (a b : ℕ) (p : a < mark) (q : b < mark) (fit : length s ≤ mark)
+    (m : Mapped s n o) where
+  abbrev gone : ℕ → Bool
+  gone = shared s (at o) a b
+
+  abbrev l : Links
+  l = links n o
+
+  mark-stays : gone mark ≡ false
+  mark-stays = shared-past s (at o) a b (λ z. omega arith) (λ z. omega arith) mark fit
+
+  -- a chase stays on darts that have a next
+  leap-on : (d : ℕ) → on n d ≡ true → on n (leaping l gone d) ≡ true
+  leap-on d h = go (gone d) refl
+    where
+      go : (c : Bool) → gone d ≡ c → on n (leaping l gone d) ≡ true
+      go true e = rw (← (leaps-on l gone d e)) (m .stays (at o d) (m .across d h))
+      go false e = rw (← (leaps-not l gone d e)) h
+
+  chase-on : (d : ℕ) → on n d ≡ true → on n (chase l gone d) ≡ true
+  chase-on d h = rw (chase-hops l gone d) (leap-on _ (leap-on _ (leap-on _ (leap-on d h))))
+
+  -- a dart with neither side keeps its next
+  bounds-next : (d : ℕ) → on n d ≡ true → bounds s a b (at n d) ≡ bounds s a b d
+  unfolding bounds
+  bounds-next d h = rw (m .keeps d h)
+
+  away-next : (d : ℕ) → bounds s a b d ≡ false → gone (at n d) ≡ false
+  away-next d e = go (on n d) refl
+    where
+      go : (c : Bool) → on n d ≡ c → gone (at n d) ≡ false
+      go true h = away-apart s (at o) a b (at n d) (bounds-next d h ∙ e)
+      go false h = rw (off-mark n d h) mark-stays
+
+  pub away-led : (d : ℕ) → bounds s a b d ≡ false → led s l a b d ≡ at n d
+  away-led d e =
+      sym (led-past s l a b d (at n d) refl (away-apart s (at o) a b d e) (at n d)
+      (sym (chase-still l gone (at n d) (away-next d e))))
+
+  -- nor does a dart with no next get one
+  off-led : (d : ℕ) → on n d ≡ false → led s l a b d ≡ at n d
+  off-led d e = go (gone d) refl
+    where
+      go : (c : Bool) → gone d ≡ c → led s l a b d ≡ at n d
+      go true h = sym (led-keeps s l a b d (at n d) refl h)
+      go false h =
+          sym (led-past s l a b d (at n d) refl h (at n d)
+          (rw (off-mark n d e) (sym (chase-still l gone mark mark-stays))))
+
+  -- so the list needs only the darts that have a next
+  module _ (j f : ℕ) (t : List ℕ) (g : Bounded s n a b j f t) where
+    pub unlisted-led : (d : ℕ) → g .test d ≡ false → led s l a b d ≡ at n d
+    unlisted-led d e = go (bounds s a b d) (on n d) refl refl
+      where
+        go : (x y : Bool) → bounds s a b d ≡ x → on n d ≡ y → led s l a b d ≡ at n d
+        go false y u v = away-led d u
+        go true true u v = clash (g .all d u v) e
+        go true false u v = off-led d v
+
+    pub led-bounded : (i : ℕ) (r : List ℕ) → r ≡ table i (led s l a b) → Bounded s r a b j f t
+    unfolding at
+    led-bounded i r e =
+        record {
+          test = g .test;
+          list = g .list;
+          all = λ d u v. g .all d u (go d v (on n d) refl);
+        }
+      where
+        off : (d : ℕ) → on n d ≡ false → Dec (d < i) → at (table i (led s l a b)) d ≡ mark
+        off d v (yes c) = getD-table i (led s l a b) d mark c ∙ off-led d v ∙ off-mark n d v
+        off d v (no c) = sym (at-out (table i (led s l a b)) d (rw length-table (omega arith)))
+
+        go : (d : ℕ) → on r d ≡ true → (c : Bool) → on n d ≡ c → on n d ≡ true
+        go d u true v = v
+        go d u false v = clash u (on-mark r d (rw e (off d v (decLt d i))))
+
+  -- with the next of some darts led on already
+  module _ (i : ℕ) (t : List ℕ) (r : Half (led s l a b) i n t) where
+    abbrev k : Links
+    k = links t o
+
+    -- the darts with the sides a and b still have theirs
+    gone-keeps : (d : ℕ) → on n d ≡ true → gone d ≡ true → at t d ≡ at n d
+    gone-keeps d h e =
+        let z = on-inside n d h in
+        at-entry t d (omega (arith, r .long)) ∙ go z (decLt d i)
+      where
+        go : d < length n → Dec (d < i) → getD t d 0 ≡ at n d
+        go z (yes c) = r .done d c ∙ sym (led-keeps s l a b d (at n d) refl e)
+        go z (no c) = r .rest d (omega arith) ∙ at-in n d z
+
+    leap-same : (d : ℕ) → on n d ≡ true → leaping k gone d ≡ leaping l gone d
+    leap-same d h = go (gone d) refl
+      where
+        go : (c : Bool) → gone d ≡ c → leaping k gone d ≡ leaping l gone d
+        go true e =
+            let u = m .across d h in
+            sym (leaps-on k gone d e) ∙ gone-keeps (at o d) u (shared-other s (at o) a b d (m .pairs d h) ∙ e)
+            ∙ leaps-on l gone d e
+        go false e = sym (leaps-not k gone d e) ∙ leaps-not l gone d e
+
+    chase-same : (d : ℕ) → on n d ≡ true → chase k gone d ≡ chase l gone d
+    chase-same d h =
+        let x = leaping l gone d in
+        let y = leaping l gone x in
+        let z = leaping l gone y in
+        let e = leap-on d h in
+        let f = leap-on x e in
+        let g = leap-on y f in
+        sym (chase-four k gone d x y z (leaping l gone z) (sym (leap-same d h)) (sym (leap-same x e))
+        (sym (leap-same y f)) (sym (leap-same z g)))
+        ∙ sym (chase-hops l gone d)
+
+    pub led-same : i < length n → led s k a b i ≡ led s l a b i
+    unfolding led
+    led-same h =
+        let e : at t i ≡ at n i = at-entry t i (omega (arith, r .long)) ∙ sym (half-here (led s l a b) i n t r h) in
+        rw e (ap (cond (gone i) (at n i)) (go (on n i) refl))
+      where
+        go : (c : Bool) → on n i ≡ c → chase k gone (at n i) ≡ chase l gone (at n i)
+        go true u = chase-same (at n i) (m .stays i u)
+        go false u =
+            let v = off-mark n i u in
+            rw v (chase-still k gone mark mark-stays ∙ sym (chase-still l gone mark mark-stays))
+
+  -- The links without the darts with the sides a and b.
+  module _ (w h : ℕ) (long : length n ≡ slots w h) where
+    rest : ℕ → Bool
+    rest d = on n d && not (gone d)
+
+    abbrev left : ℕ → ℕ
+    left d = cond (rest d) (chase l gone (at n d)) mark
+
+    left-on : slots w h ≤ mark → (d : ℕ) → not (eqb (left d) mark) ≡ rest d
+    unfolding rest
+    left-on room d = go (on n d) (gone d) refl
+      where
+        go : (x y : Bool) → on n d ≡ x
+            → not (eqb (cond (x && not y) (chase l gone (at n d)) mark) mark) ≡ (x && not y)
+        go true true e = ap not (eq-eqb mark mark refl)
+        go true false e =
+            let u = on-inside n _ (chase-on (at n d) (m .stays d e)) in
+            ap not (ne-eqb _ mark (λ z. omega arith))
+        go false y e = ap not (eq-eqb mark mark refl)
+
+    led-left : (d : ℕ) → cond (gone d) mark (led s l a b d) ≡ left d
+    unfolding rest led
+    led-left d = go (on n d) (gone d) refl
+      where
+        go : (x y : Bool) → on n d ≡ x
+            → cond y mark (cond y (at n d) (chase l gone (at n d))) ≡ cond (x && not y) (chase l gone (at n d)) mark
+        go true true e = refl
+        go true false e = refl
+        go false true e = refl
+        go false false e = rw (off-mark n d e) (chase-still l gone mark mark-stays)
+
+    pub removed-steps : slots w h ≤ mark → length o ≡ slots w h → (i j : ℕ) (n₁ n₂ o₂ : List ℕ) → i ≡ slots w h
+        → j ≡ slots w h → n₁ ≡ table i (led s l a b) → n₂ ≡ table j (λ d. cond (gone d) mark (at n₁ d))
+        → o₂ ≡ alongSide n₂ o → links n₂ o₂ ≡ removed w h l gone
+    unfolding removed marked alongSide on at rest
+    removed-steps room longs i j n₁ n₂ o₂ u v e f g = rw (nexts, others)
+      where
+        nexts : n₂ ≡ table (slots w h) left
+        nexts =
+            f ∙ rw (v, e, u)
+            (table-agree (slots w h) _ left
+            (λ d c. ap (cond (gone d) mark) (getD-table (slots w h) (led s l a b) d mark c) ∙ led-left d))
+
+        others : o₂ ≡ table (slots w h) (λ d. cond (rest d) (at o d) mark)
+        others =
+            g ∙ rw (longs, nexts)
+            (table-agree (slots w h) _ _
+            (λ d c.
+            ap (λ z. cond z (at o d) mark)
+            (ap (λ x. not (eqb x mark)) (getD-table (slots w h) left d mark c) ∙ left-on room d)))
+
+    -- a dart with no next gets none
+    pub off-left : (d : ℕ) → on n d ≡ false → on (removed w h l gone .next) d ≡ false
+    unfolding removed rest
+    off-left d e = on-mark _ d (go (decLt d (slots w h)))
+      where
+        go : Dec (d < slots w h) → at (removed w h l gone .next) d ≡ mark
+        go (yes c) = at-below w h rest (λ e. chase l gone (at n e)) d c ∙ rw e
+        go (no c) = at-past w h rest (λ e. chase l gone (at n e)) d (omega arith)
+
+    -- a dart with neither side has the next that it had
+    pub away-left : (d : ℕ) → bounds s a b d ≡ false → at (removed w h l gone .next) d ≡ at n d
+    unfolding removed rest
+    away-left d e = go (decLt d (slots w h))
+      where
+        value : left d ≡ at n d
+        value = sym (led-left d) ∙ rw (away-apart s (at o) a b d e) (away-led d e)
+
+        go : Dec (d < slots w h) → at (removed w h l gone .next) d ≡ at n d
+        go (yes c) = at-below w h rest (λ e. chase l gone (at n e)) d c ∙ value
+        go (no c) =
+            at-past w h rest (λ e. chase l gone (at n e)) d (omega arith) ∙ at-out n d (omega arith)

@@ -1,0 +1,4 @@
+pub mod Leading
+mod Listing
+mod Narrowing
+pub mod Sharing

@@ -1,0 +1,3 @@
+pub mod Led
+pub mod Listed
+pub mod Mapped
