@@ -41,10 +41,10 @@ fn close_point(
         close (on (now (lines .entry))) (now (tops .entry)) (links (now (next .entry)) (now (other .entry))) point
         ⌝ }
 {
-    let seen = ends::seen(kinds, next, point);
-    if !seen.two {
+    if !ends::two(kinds, next, point) {
         return;
     }
+    let seen = ends::seen(kinds, next, point);
     let u = seen.first;
     let v = seen.last;
     let x = entry::get(other, u);

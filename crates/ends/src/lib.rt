@@ -84,6 +84,15 @@ fn is_two(kinds: &[u16; 16], lines: u16) -> bool
     kind == turn::CORNER
 }
 
+// Whether exactly two darts leave a point for which a table has entries.
+pub fn two(kinds: &[u16; 16], table: &[u16], point: u16) -> bool
+    requires { ⌜ (now kinds ≡ kinding) × (dart point 3 < mark) ⌝ }
+    ensures { λ r. ⌜ r ≡ eqb (degree (mask (on (now (table .entry))) point)) 2 ⌝ }
+{
+    let lines = mask(table, point);
+    is_two(kinds, lines)
+}
+
 // The first direction of a mask; 3 where it has none.
 fn low(lines: u16) -> u16
     ensures { λ r. ⌜ (r ≡ low lines) × (r ≤ 3) ⌝ }

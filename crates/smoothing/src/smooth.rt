@@ -55,10 +55,10 @@ fn smooth_point(kinds: &[u16; 16], next: &mut [u16], other: &mut [u16], point: u
         links (now (next .exit)) (now (other .exit)) ≡ smooth (links (now (next .entry)) (now (other .entry))) point
         ⌝ }
 {
-    let seen = ends::seen(kinds, next, point);
-    if !seen.two {
+    if !ends::two(kinds, next, point) {
         return;
     }
+    let seen = ends::seen(kinds, next, point);
     smooth_edge(next, other, seen.first, seen.last);
 }
 

@@ -1,17 +1,22 @@
-use mathlib.Core.Path.{_∙_, refl}
+use mathlib.Core.Path.{refl, sym, _∙_}
 use borrow.Author.Tests.{not-true, not-false}
 use Rattle.smoothing.proofs.Splicing.{smooth-other, smooth-two}
 use Rattle.smoothing.proofs.smooth.smooth_point.Statement.{statement}
 use Rattle.smoothing.proofs.smooth.smooth_point.Tie as tie
 
-seen-requires : tie.Need-seen-requires
-seen-requires c κs = c .before .before .before .pre
+two-requires : tie.Need-two-requires
+two-requires c κs = c .before .before .before .pre
 
 same-length : tie.Need-same-length
 same-length c = refl
 
 returns : tie.Need-returns
-returns c = smooth-other _ _ _ _ _ (c .before .before .seen .ensures) (not-true _ (c .if1 .taken))
+returns c =
+    let t = c .before .two in
+    smooth-other _ _ _ _ _ (record { two = t .ensures; first = refl; last = refl }) (not-true _ (c .if1 .taken))
+
+seen-requires : tie.Need-seen-requires
+seen-requires c κs = c .before .before .before .before .before .before .pre
 
 smooth-edge-requires : tie.Need-smooth-edge-requires
 smooth-edge-requires c κs = tt
@@ -24,18 +29,19 @@ same-length-3 c = c .before .before .before .before .smooth-edge .kept .1 .0
 
 returns-2 : tie.Need-returns-2
 returns-2 c =
-    let c4 = c .before .before .before .before in
-    let c7 = c4 .before .before .before in
-    let c9 = c7 .before .before in
-    c4 .smooth-edge .ensures ∙ smooth-two _ _ _ _ _ (c9 .seen .ensures) (not-false _ (c7 .if1 .left))
+    let s = c .before .before .before .before .before .before .before in
+    let t = c .before .before .before .before .before .before .before .before .before .before .two in
+    c .before .before .before .before .smooth-edge .ensures
+    ∙ smooth-two _ _ _ _ _ (s .seen .ensures) (s .seen .ensures .two ∙ sym (t .ensures) ∙ not-false _ (c .before .before .before .before .before .before .before .before .before .if1 .left))
 
 pub smooth-point-spec : {M : Type 1} → statement M
 smooth-point-spec =
     tie.close
     (tie.spec
-    seen-requires
+    two-requires
     same-length
     returns
+    seen-requires
     smooth-edge-requires
     same-length-2
     same-length-3
