@@ -15,7 +15,6 @@ use Rattle.plane.specs.Point.{degree}
 use Rattle.paper.specs.Level.{mask}
 use Rattle.paper.specs.Joining.{Links, at, on, low, high, moved, close, closes}
 use Rattle.removal.specs.Links.{links}
-use Rattle.ends.specs.Seen.{SeenAt}
 use Rattle.enclosure.specs.Tops.{Rising}
 
 -- the two stores into each table
@@ -30,41 +29,40 @@ unfolding dart
 top-fit t p r h = let u = r .up p in omega arith
 
 -- a point is treated by what is seen there
-module _ (o : ℕ → Bool) (t : List ℕ) (l : Links) (p : ℕ) (c : Bool) (u v : ℕ)
-    (s : SeenAt (mask (on (l .next)) p) p c u v) where
+module _ (o : ℕ → Bool) (t : List ℕ) (l : Links) (p : ℕ) (c : Bool) (s : c ≡ eqb (degree (mask (on (l .next)) p)) 2) where
   pub close-other : c ≡ false → l ≡ close o t l p
   unfolding close
-  close-other n = rw (sym (s .two) ∙ n, close)
+  close-other n = rw (sym s ∙ n, close)
 
-  module _ (two : c ≡ true) (x : ℕ) (e : x ≡ at (l .other) u) where
+  module _ (two : c ≡ true) (u v x : ℕ) (first : u ≡ dart p (low (mask (on (l .next)) p)))
+      (last : v ≡ dart p (high (mask (on (l .next)) p))) (e : x ≡ at (l .other) u) where
     here : eqb (degree (mask (on (l .next)) p)) 2 ≡ true
-    here = sym (s .two) ∙ two
+    here = sym s ∙ two
 
     abbrev ends : Bool
     ends = eqb (at (l .other) (dart p (low (mask (on (l .next)) p)))) (dart p (high (mask (on (l .next)) p)))
 
     across : at (l .other) (dart p (low (mask (on (l .next)) p))) ≡ x
-    across = ap (at (l .other)) (sym (s .first)) ∙ sym e
+    across = ap (at (l .other)) (sym first) ∙ sym e
 
     pub close-edges : (x ≡ v → ⊥) → l ≡ close o t l p
     unfolding close
     close-edges n =
-        let f : ends ≡ false = ne-eqb _ _ (λ q. n (sym across ∙ q ∙ sym (s .last))) in
+        let f : ends ≡ false = ne-eqb _ _ (λ q. n (sym across ∙ q ∙ sym last)) in
         rw (here, f, close)
 
-    module _ (loop : x ≡ v) (b : Bool) (y z : ℕ) (r : SeenAt (mask o p) p b y z) where
+    module _ (loop : x ≡ v) (b : Bool) (r : b ≡ eqb (degree (mask o p)) 2) where
       round : ends ≡ true
-      round = eq-eqb _ _ (across ∙ loop ∙ s .last)
+      round = eq-eqb _ _ (across ∙ loop ∙ last)
 
       pub close-big : b ≡ false → l ≡ close o t l p
       unfolding close
-      close-big n = rw (here, round, sym (r .two) ∙ n, close)
+      close-big n = rw (here, round, sym r ∙ n, close)
 
-      pub close-loop : b ≡ true → (k : Bool) (e f : ℕ) → SeenAt (mask o (getD t p 0)) (getD t p 0) k e f
-          → moved l u v e f ≡ close o t l p
+      pub close-loop : b ≡ true → (e f : ℕ) → e ≡ dart (getD t p 0) (low (mask o (getD t p 0)))
+          → f ≡ dart (getD t p 0) (high (mask o (getD t p 0))) → moved l u v e f ≡ close o t l p
       unfolding close
-      close-loop h k e f a =
-          rw (here, round, sym (r .two) ∙ h, s .first, s .last, a .first, a .last, close)
+      close-loop h e f a g = rw (here, round, sym r ∙ h, first, last, a, g, close)
 
 module _ (o : ℕ → Bool) (t : List ℕ) where
   pub closes-none : (p : ℕ) (l : Links) → closes o t zero p l ≡ l

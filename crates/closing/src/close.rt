@@ -44,18 +44,17 @@ fn close_point(
     if !ends::two(kinds, next, point) {
         return;
     }
-    let seen = ends::seen(kinds, next, point);
+    let seen = ends::seen(next, point);
     let u = seen.first;
     let v = seen.last;
     let x = entry::get(other, u);
     if x != v {
         return;
     }
-    let left = ends::seen(kinds, lines, point);
-    if !left.two {
+    if !ends::two(kinds, lines, point) {
         return;
     }
-    let anchor = ends::seen(kinds, lines, tops[point as usize]);
+    let anchor = ends::seen(lines, tops[point as usize]);
     move_loop(next, other, u, v, anchor.first, anchor.last);
 }
 

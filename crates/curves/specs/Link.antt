@@ -7,15 +7,12 @@
 --   back x d        == the reversal of dart d
 --   alongNext ..   == the table of next; the mark where no dart starts
 --   alongOther ..  == the table of other, likewise
---   alongSide ..   == the table s of sides, with the mark where the table x of links has it
-use mathlib.Core.Bool.{Bool, cond, _&&_}
+use mathlib.Core.Bool.{Bool, _&&_}
 use mathlib.Core.List.{List}
 use Prim.Native.Nat.{ℕ}
 use lib.Dec.{eqb}
-use lib.ListN.{length}
-use Rattle.laws.specs.Table.{table}
 use Rattle.laws.specs.Run.{run}
-use Rattle.plane.specs.Dart.{mark, slots, dart, point, direction, turned}
+use Rattle.plane.specs.Dart.{slots, dart, point, direction, turned}
 use Rattle.paper.specs.Level.{marked}
 use Rattle.paper.specs.Joining.{at, on}
 
@@ -40,6 +37,3 @@ alongNext w h x k = marked w h (starts x k) (λ d. at x (lastOf (slots w h) x k 
 
 unfoldable pub alongOther : ℕ → ℕ → List ℕ → List ℕ → List ℕ
 alongOther w h x k = marked w h (starts x k) (λ d. back x (lastOf (slots w h) x k d))
-
-unfoldable pub alongSide : List ℕ → List ℕ → List ℕ
-alongSide x s = table (length s) (λ d. cond (on x d) (at s d) mark)

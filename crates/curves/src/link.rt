@@ -2,12 +2,11 @@ use plane::dart;
 use table::entry;
 ghost use mathlib.Core.Path.{_≡_};
 ghost use mathlib.Core.Bool.{true, cond};
-ghost use lib.Dec.{eqb};
 ghost use lib.ListN.{length};
 ghost use Rattle.plane.specs.Size.{within};
 ghost use Rattle.plane.specs.Dart.{mark, slots};
 ghost use Rattle.paper.specs.Joining.{at};
-ghost use Rattle.curves.specs.Link.{starts, lastOf, back, alongNext, alongOther, alongSide};
+ghost use Rattle.curves.specs.Link.{starts, lastOf, back, alongNext, alongOther};
 
 // The last dart of a run, and the dart after it.
 struct Run {
@@ -101,25 +100,5 @@ pub fn links(
         next[d as usize] = l.next;
         other[d as usize] = l.other;
         d += 1;
-    }
-}
-
-// A side where a link is not the mark, else the mark.
-fn where_linked(link: u16, side: u16) -> u16
-    ensures { λ r. ⌜ r ≡ cond (eqb link mark) mark side ⌝ }
-{
-    if link == dart::MARK { dart::MARK } else { side }
-}
-
-// The sides of the darts that have links; the mark for the others.
-pub fn trim(links: &[u16], side: &mut [u16])
-    requires { ⌜ length (now links) ≡ length (now side) ⌝ }
-    ensures { λ _. ⌜ now (side .exit) ≡ alongSide (now (links .entry)) (now (side .entry)) ⌝ }
-{
-    let n = side.len();
-    let mut i = 0;
-    while i < n {
-        side[i] = where_linked(links[i], side[i]);
-        i += 1;
     }
 }

@@ -1,8 +1,7 @@
 -- What is seen at a point.
 --   at t d, on t d  == the entry of dart d, the mark past the end; that it is not the mark
---   SeenAt m p b u v == of the lines m at point p: b, they are two; u and v, the darts of the first and of the last
 use mathlib.Core.Path.{_≡_, sym, _∙_, ap}
-use mathlib.Core.Bool.{Bool, true, not}
+use mathlib.Core.Bool.{true, not}
 use mathlib.Core.List.{List}
 use Prim.Native.Nat.{ℕ, _+_, _*_, _≤_, _<_, zero-le}
 use native.Mathlib.Nat.{add-zero, one-mul, mul-zero, mul-one, le-refl}
@@ -15,9 +14,8 @@ use Rattle.plane.specs.Point.{bits, degree}
 use Rattle.rules.specs.Turn.{kinding}
 use Rattle.rules.proofs.Kind.{kind-alone, kind-two}
 use Rattle.paper.specs.Level.{mask}
-use Rattle.paper.specs.Joining.{at, on, low, high}
+use Rattle.paper.specs.Joining.{at, on}
 use Rattle.paper.proofs.Next.{mask-below}
-use Rattle.ends.specs.Seen.{SeenAt}
 
 -- a weight where what was found is not the mark, else 0
 pub where-off : (r v : ℕ) → r ≡ mark → (0 ≡ v * number (not (eqb r mark))) × (0 ≤ v)
@@ -50,14 +48,3 @@ module _ (ks : List ℕ) (m k : ℕ) (b : m < 16) (q : ks ≡ kinding) (e : k �
 
   pub two-corner : (k ≡ 1 → ⊥) → eqb k 2 ≡ eqb (degree m) 2
   two-corner n = rw (ne-eqb k 1 n) at (kind-two m k b said)
-
--- what is seen, from the mask
-pub seen-of : (m p : ℕ) (b : Bool) (i j n : ℕ) → n ≡ m → b ≡ eqb (degree n) 2 → i ≡ low n → j ≡ high n
-    → SeenAt m p b (4 * p + i) (4 * p + j)
-unfolding dart
-seen-of m p b i j n e d f g =
-    record {
-      two = d ∙ ap (λ k. eqb (degree k) 2) e;
-      first = ap (dart p) (f ∙ ap low e);
-      last = ap (dart p) (g ∙ ap high e);
-    }

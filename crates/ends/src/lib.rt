@@ -13,11 +13,9 @@ ghost use Rattle.plane.specs.Point.{degree};
 ghost use Rattle.rules.specs.Turn.{kinding};
 ghost use Rattle.paper.specs.Level.{mask};
 ghost use Rattle.paper.specs.Joining.{at, on, low, high};
-ghost use Rattle.ends.specs.Seen.{SeenAt};
 
-// Whether exactly two darts of a level leave a point, and the first and the last that do.
+// The first and the last dart of a level that leave a point.
 pub struct Ends {
-    pub two: bool,
     pub first: u16,
     pub last: u16,
 }
@@ -125,14 +123,16 @@ fn high(lines: u16) -> u16
     0
 }
 
-// The darts that leave a point and for which a table has entries. Kinds is what the point table says of each mask.
-pub fn seen(kinds: &[u16; 16], table: &[u16], point: u16) -> Ends
-    requires { ⌜ (now kinds ≡ kinding) × (dart point 3 < mark) ⌝ }
-    ensures { λ r. ⌜ SeenAt (mask (on (now (table .entry))) point) point (r .two) (r .first) (r .last) ⌝ }
+// The first and the last dart that leave a point and for which a table has entries.
+pub fn seen(table: &[u16], point: u16) -> Ends
+    requires { ⌜ dart point 3 < mark ⌝ }
+    ensures { λ r. ⌜
+        (r .first ≡ dart point (low (mask (on (now (table .entry))) point))) ×
+        (r .last ≡ dart point (high (mask (on (now (table .entry))) point)))
+        ⌝ }
 {
     let lines = mask(table, point);
     Ends {
-        two: is_two(kinds, lines),
         first: 4 * point + low(lines),
         last: 4 * point + high(lines),
     }

@@ -18,7 +18,7 @@ use Rattle.lines.specs.Line.{nexts}
 use Rattle.sides.specs.Side.{sides}
 use Rattle.keeping.specs.Keep.{bends, keeps}
 use Rattle.curves.specs.Link.{keptAt}
-use Rattle.parts.proofs.Paper.{drafted, nexts-paper, others-paper, masked-paper, sides-paper, bends-paper, keeps-paper, alongNext-paper, alongOther-paper, alongSide-paper}
+use Rattle.parts.proofs.Paper.{drafted, nexts-paper, others-paper, masked-paper, sides-paper, bends-paper, keeps-paper, alongNext-paper, alongOther-paper, trimmed-paper}
 use Rattle.levels.specs.Tables.{plainTables, alongTables, tablesOf}
 
 three : {a b c x y z : List ℕ} → a ≡ x → b ≡ y → c ≡ z → _≡_ {A = List (List ℕ)} (a ∷ b ∷ c ∷ []) (x ∷ y ∷ z ∷ [])
@@ -40,7 +40,7 @@ module _ (w h : ℕ) (n : List ℕ) (room : slots w h ≤ mark) where
   unfolding alongTables
   along-paper o l k keep e =
       rw (nexts-paper w h o l, sides-paper w h n o, ← e)
-      (three (alongNext-paper w h o l room k) (alongOther-paper w h o l room k) (alongSide-paper w h o l room k (side w h n)))
+      (three (alongNext-paper w h o l room k) (alongOther-paper w h o l room k) (trimmed-paper w h o l room k (side w h n)))
 
   module _ (small : (d : ℕ) → side w h n d < mark) where
     sides-on : on (sides w h (framed w h n) (drafted w h (border w h n))) ≡ border w h n

@@ -18,7 +18,8 @@ use Rattle.masks.specs.Mask.{masked, plainMasks}
 use Rattle.lines.specs.Line.{nexts, others}
 use Rattle.sides.specs.Side.{sides}
 use Rattle.keeping.specs.Keep.{bends, keeps}
-use Rattle.curves.specs.Link.{alongNext, alongOther, alongSide}
+use Rattle.curves.specs.Link.{alongNext, alongOther}
+use Rattle.table.specs.Trim.{trimmed}
 use Rattle.levels.specs.Tables.{plainTables, alongTables, keptPoints, tablesOf}
 use Rattle.levels.proofs.Paper.{levelTables-paper}
 
@@ -41,7 +42,7 @@ module _ (w h : ℕ) (f m x s : List ℕ) (p : x ≡ nexts w h m) (q : s ≡ sid
   plain-tables (suc (suc l)) o b e r = absurd (omega arith)
 
   pub along-tables : (l : ℕ) (k y o t : List ℕ) → 2 ≤ l → l ≤ 3 → m ≡ masked w h f → k ≡ keptPoints w h l m s
-      → y ≡ alongNext w h x k → o ≡ alongOther w h x k → t ≡ alongSide y s
+      → y ≡ alongNext w h x k → o ≡ alongOther w h x k → t ≡ trimmed y s
       → _≡_ {A = List (List ℕ)} (y ∷ o ∷ t ∷ []) (tablesOf w h l f)
   unfolding tablesOf alongTables keptPoints
   along-tables zero k y o t b c e g i j n = absurd (omega arith)

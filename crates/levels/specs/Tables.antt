@@ -13,7 +13,8 @@ use Rattle.masks.specs.Mask.{masked, ruled}
 use Rattle.lines.specs.Line.{nexts, others}
 use Rattle.sides.specs.Side.{sides}
 use Rattle.keeping.specs.Keep.{bends, keeps}
-use Rattle.curves.specs.Link.{alongNext, alongOther, alongSide}
+use Rattle.curves.specs.Link.{alongNext, alongOther}
+use Rattle.table.specs.Trim.{trimmed}
 
 unfoldable pub plainTables : ℕ → ℕ → List ℕ → List ℕ → List (List ℕ)
 plainTables w h f m = nexts w h m ∷ others w h m ∷ sides w h f m ∷ []
@@ -21,7 +22,7 @@ plainTables w h f m = nexts w h m ∷ others w h m ∷ sides w h f m ∷ []
 unfoldable pub alongTables : ℕ → ℕ → List ℕ → List ℕ → List ℕ → List (List ℕ)
 alongTables w h x k s =
     let y = alongNext w h x k in
-    y ∷ alongOther w h x k ∷ alongSide y s ∷ []
+    y ∷ alongOther w h x k ∷ trimmed y s ∷ []
 
 unfoldable pub keptPoints : ℕ → ℕ → ℕ → List ℕ → List ℕ → List ℕ
 keptPoints w h l m s = cond (eqb l 2) (bends w h m) (keeps w h m (tops w h (on s)))

@@ -4,6 +4,7 @@ use lines::line;
 use masks::mask;
 use pieces::points;
 use sides::side;
+use table::entry;
 ghost use mathlib.Core.Path.{_≡_};
 ghost use mathlib.Core.Bool.{true};
 ghost use mathlib.Core.List.{[], _∷_};
@@ -94,5 +95,5 @@ pub fn along(
     side::sides(width, height, framed, masks, side);
     keep_points(width, height, level, side, masks, next, kept);
     link::links(width, height, next1, kept, next, other);
-    link::trim(next, side);
+    entry::trim(next, side);
 }

@@ -32,7 +32,8 @@ use Rattle.masks.specs.Mask.{around, masked}
 use Rattle.lines.specs.Line.{lined, onward, nexts, others}
 use Rattle.sides.specs.Side.{beheld, sides}
 use Rattle.keeping.specs.Keep.{kindAt, large, bends, stands, anchored, keeps}
-use Rattle.curves.specs.Link.{ahead, keptAt, starts, lastOf, back, alongNext, alongOther, alongSide}
+use Rattle.curves.specs.Link.{ahead, keptAt, starts, lastOf, back, alongNext, alongOther}
+use Rattle.table.specs.Trim.{trimmed}
 
 abbrev pub drafted : ℕ → ℕ → (ℕ → Bool) → List ℕ
 drafted w h o = table (points w h) (mask o)
@@ -232,12 +233,12 @@ module _ (w h : ℕ) (o : ℕ → Bool) (l : Lines w h o) (room : slots w h ≤ 
       ap (back x) (last-paper d q)
       ∙ ap (λ p. dart p (turned (direction f) 2)) (ap point (x-at f r) ∙ point-next w o f (l .back f r)))
 
-  side-marked : (y s : List ℕ) → length s ≡ slots w h → alongSide y s ≡ marked w h (on y) (at s)
-  unfolding alongSide marked
+  side-marked : (y s : List ℕ) → length s ≡ slots w h → trimmed y s ≡ marked w h (on y) (at s)
+  unfolding trimmed marked
   side-marked y s e = rw e
 
-  pub alongSide-paper : (s : ℕ → ℕ) → alongSide (alongNext w h x k) (marked w h o s) ≡ marked w h (a .on) s
-  alongSide-paper s =
+  pub trimmed-paper : (s : ℕ → ℕ) → trimmed (alongNext w h x k) (marked w h o s) ≡ marked w h (a .on) s
+  trimmed-paper s =
       rw (side-marked (alongNext w h x k) (marked w h o s) (length-marked w h o s), alongNext-paper)
       (marked-agree w h (on (marked w h (a .on) (a .next))) (a .on) (at (marked w h o s)) s
       held

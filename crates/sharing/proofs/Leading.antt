@@ -18,7 +18,7 @@ use Rattle.plane.specs.Dart.{mark, slots}
 use Rattle.paper.specs.Level.{marked}
 use Rattle.paper.specs.Joining.{Links, at, on, shared, chase, removed}
 use Rattle.paper.proofs.Marks.{at-below, at-past}
-use Rattle.curves.specs.Link.{alongSide}
+use Rattle.table.specs.Trim.{trimmed}
 use Rattle.table.proofs.Entries.{at-in, at-entry, at-out, on-mark, on-entry}
 use Rattle.table.proofs.Half.{Half, half-here}
 use Rattle.removal.specs.Links.{links}
@@ -275,8 +275,8 @@ module _ (s n o : List ℕ) (a b : ℕ) (p : a < mark) (q : b < mark) (fit : len
 
     pub removed-steps : slots w h ≤ mark → length o ≡ slots w h → (i j : ℕ) (n₁ n₂ o₂ : List ℕ) → i ≡ slots w h
         → j ≡ slots w h → n₁ ≡ table i (led s l a b) → n₂ ≡ table j (λ d. cond (gone d) mark (at n₁ d))
-        → o₂ ≡ alongSide n₂ o → links n₂ o₂ ≡ removed w h l gone
-    unfolding removed marked alongSide on at rest
+        → o₂ ≡ trimmed n₂ o → links n₂ o₂ ≡ removed w h l gone
+    unfolding removed marked trimmed on at rest
     removed-steps room longs i j n₁ n₂ o₂ u v e f g = rw (nexts, others)
       where
         nexts : n₂ ≡ table (slots w h) left

@@ -1,4 +1,3 @@
-use curves::link;
 use plane::dart;
 use table::entry;
 ghost use mathlib.Core.Path.{_≡_};
@@ -158,5 +157,5 @@ pub fn remove_shared(
 {
     lead(side, other, a, b, first, list, next);
     unlink(side, other, a, b, first, list, next);
-    link::trim(next, other);
+    entry::trim(next, other);
 }

@@ -1,5 +1,4 @@
 -- Step 3: a point that two darts alone leave, of two different edges.
---   SeenAt m p b u v == of the lines m at point p: b, they are two; u and v, the darts of the first and of the last
 --   splice l u v    == the links without darts u and v, where they are of two different edges
 --   smooth l p      == the links without point p, where two darts of two different edges alone leave it
 use mathlib.Core.Path.{_≡_, refl, sym, _∙_}
@@ -14,7 +13,6 @@ use Rattle.plane.specs.Point.{degree}
 use Rattle.paper.specs.Level.{mask}
 use Rattle.paper.specs.Joining.{Links, at, on, low, high, spliced, smooth, smooths}
 use Rattle.removal.specs.Links.{links, splice}
-use Rattle.ends.specs.Seen.{SeenAt}
 
 -- two tables, each with its equation
 pub links-path : (l : Links) (n o : List ℕ) → n ≡ l .next → o ≡ l .other → links n o ≡ l
@@ -42,14 +40,15 @@ module _ (l : Links) (u v : ℕ) where
   splice-edges x y e n f = rw (e, f, ne-eqb (at (l .other) u) v (λ q. n (e ∙ q)), splice)
 
 -- a point is treated by whether two darts are seen there
-module _ (l : Links) (p : ℕ) (c : Bool) (u v : ℕ) (s : SeenAt (mask (on (l .next)) p) p c u v) where
+module _ (l : Links) (p : ℕ) (c : Bool) (s : c ≡ eqb (degree (mask (on (l .next)) p)) 2) where
   pub smooth-other : c ≡ false → l ≡ smooth l p
   unfolding smooth
-  smooth-other n = rw (sym (s .two) ∙ n, smooth)
+  smooth-other n = rw (sym s ∙ n, smooth)
 
-  pub smooth-two : c ≡ true → splice l u v ≡ smooth l p
+  pub smooth-two : c ≡ true → (u v : ℕ) → u ≡ dart p (low (mask (on (l .next)) p))
+      → v ≡ dart p (high (mask (on (l .next)) p)) → splice l u v ≡ smooth l p
   unfolding smooth
-  smooth-two e = rw (s .first, s .last) (go (eqb x y) refl)
+  smooth-two e u v f g = rw (f, g) (go (eqb x y) refl)
     where
       m : ℕ
       m = mask (on (l .next)) p
@@ -61,7 +60,7 @@ module _ (l : Links) (p : ℕ) (c : Bool) (u v : ℕ) (s : SeenAt (mask (on (l .
       y = dart p (high m)
 
       two : eqb (degree m) 2 ≡ true
-      two = sym (s .two) ∙ e
+      two = sym s ∙ e
 
       go : (b : Bool) → eqb x y ≡ b → splice l (dart p (low m)) y ≡ smooth l p
       go true q = sym (splice-loop l (dart p (low m)) y x refl (eqb-true x y q)) ∙ rw (two, q, smooth)

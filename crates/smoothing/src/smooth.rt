@@ -58,7 +58,7 @@ fn smooth_point(kinds: &[u16; 16], next: &mut [u16], other: &mut [u16], point: u
     if !ends::two(kinds, next, point) {
         return;
     }
-    let seen = ends::seen(kinds, next, point);
+    let seen = ends::seen(next, point);
     smooth_edge(next, other, seen.first, seen.last);
 }
 

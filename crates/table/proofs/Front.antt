@@ -1,8 +1,8 @@
 -- A table of m entries that is lent at its front, the first n entries, and comes back with e there.
-use mathlib.Core.Path.{_≡_, _∙_}
+use mathlib.Core.Path.{_≡_, sym, _∙_}
 use mathlib.Core.List.{List, _++_}
 use Prim.Native.Nat.{ℕ, _≤_}
-use lib.ListN.{length, take, drop}
+use lib.ListN.{length, take, drop, replicate, length-replicate}
 use lib.Seq.{length-take-le, length-front, take-at}
 
 module _ (m n : ℕ) (l : List ℕ) (z : length l ≡ m) (b : n ≤ m) where
@@ -24,3 +24,11 @@ module _ (m n : ℕ) (l : List ℕ) (z : length l ≡ m) (b : n ≤ m) where
 
     pub back-long : length (take n (e ++ drop n l)) ≡ n
     back-long = rw front-back (k ∙ front-long)
+
+-- the front of a table that was just made, each entry a
+module _ (a n m : ℕ) (b : n ≤ m) where
+  pub blank-in : n ≤ length (replicate m a)
+  blank-in = front-in m n (replicate m a) (length-replicate m a) b
+
+  pub blank-front : n ≡ length (take n (replicate m a))
+  blank-front = sym (front-long m n (replicate m a) (length-replicate m a) b)

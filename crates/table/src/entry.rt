@@ -1,10 +1,14 @@
 use plane::dart;
 ghost use mathlib.Core.Path.{_≡_};
+ghost use mathlib.Core.Bool.{cond};
 ghost use mathlib.Core.List.{[], _∷_};
+ghost use lib.Dec.{eqb};
 ghost use lib.ListN.{length, set, replicate};
+ghost use Rattle.plane.specs.Dart.{mark};
 ghost use Rattle.paper.specs.Drawing.{alike};
 ghost use Rattle.paper.specs.Joining.{at};
 ghost use Rattle.paper.specs.Refusal.{cleared};
+ghost use Rattle.table.specs.Trim.{trimmed};
 
 // The entry of a table at a place, the mark past its end.
 pub fn get(table: &[u16], place: u16) -> u16
@@ -76,4 +80,28 @@ pub fn same(left: &[u16], right: &[u16]) -> bool
         i += 1;
     }
     true
+}
+
+// An entry where a link is not the mark, else the mark.
+fn where_linked(link: u16, entry: u16) -> u16
+    ensures { λ r. ⌜ r ≡ cond (eqb link mark) mark entry ⌝ }
+{
+    if link == dart::MARK {
+        dart::MARK
+    } else {
+        entry
+    }
+}
+
+// The entries of a table for the darts that have links; the mark for the others.
+pub fn trim(links: &[u16], table: &mut [u16])
+    requires { ⌜ length (now links) ≡ length (now table) ⌝ }
+    ensures { λ _. ⌜ now (table .exit) ≡ trimmed (now (links .entry)) (now (table .entry)) ⌝ }
+{
+    let n = table.len();
+    let mut i = 0;
+    while i < n {
+        table[i] = where_linked(links[i], table[i]);
+        i += 1;
+    }
 }

@@ -1,2 +1,2 @@
-// Tables: an entry read or set, a table cleared, two tables compared.
+// Tables: an entry read or set, a table cleared or trimmed, two tables compared.
 pub mod entry;

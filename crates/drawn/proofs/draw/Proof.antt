@@ -1,4 +1,4 @@
-use Rattle.cases.proofs.Blank.{blank-in, blank-front}
+use Rattle.table.proofs.Front.{blank-in, blank-front}
 use Rattle.drawn.proofs.draw.Statement.{statement}
 use Rattle.drawn.proofs.draw.Tie as tie
 

@@ -1,4 +1,4 @@
-use mathlib.Core.Path.{refl, sym, _∙_}
+use mathlib.Core.Path.{refl, _∙_}
 use borrow.Author.Tests.{not-true, not-false}
 use borrow.Author.Needs.{needs}
 use Rattle.closing.proofs.Closing.{top-fit, close-other, close-edges, close-big, close-loop}
@@ -14,12 +14,10 @@ same-length : tie.Need-same-length
 same-length c = refl
 
 returns : tie.Need-returns
-returns c =
-    let t = c .before .two in
-    close-other _ _ _ _ _ _ _ (record { two = t .ensures; first = refl; last = refl }) (not-true _ (c .if1 .taken))
+returns c = close-other _ _ _ _ _ (c .before .two .ensures) (not-true _ (c .if1 .taken))
 
 seen-requires : tie.Need-seen-requires
-seen-requires c κs = let q = c .before .before .before .before .before .before .before .before .pre in (q .0, q .1)
+seen-requires c κs = c .before .before .before .before .before .before .before .before .pre .1
 
 get-requires : tie.Need-get-requires
 get-requires c κs = tt
@@ -33,11 +31,14 @@ same-length-3 c = refl
 returns-2 : tie.Need-returns-2
 returns-2 c =
     let s = c .before .before .before in
-    let two = s .seen .ensures .two ∙ sym (s .before .before .before .two .ensures) ∙ not-false _ (s .before .before .if1 .left) in
-    close-edges _ _ _ _ _ _ _ (s .seen .ensures) two _ (c .before .get .ensures) (c .if2 .taken)
+    let t = s .before .before in
+    close-edges _ _ _ _ _ (t .before .two .ensures) (not-false _ (t .if1 .left)) _ _ _ (s .seen .ensures .0)
+    (s .seen .ensures .1) (c .before .get .ensures) (c .if2 .taken)
 
-seen-requires-2 : tie.Need-seen-requires-2
-seen-requires-2 c κs = let q = c .before .before .before .before .before .before .before .before .before .before .before .before .pre in (q .0, q .1)
+two-requires-2 : tie.Need-two-requires-2
+two-requires-2 c κs =
+    let q = c .before .before .before .before .before .before .before .before .before .before .before .before .pre in
+    (q .0, q .1)
 
 same-length-4 : tie.Need-same-length-4
 same-length-4 c = refl
@@ -47,10 +48,11 @@ same-length-5 c = refl
 
 returns-3 : tie.Need-returns-3
 returns-3 c =
-    let s = c .before .before .before .before .before .before in
-    let two = s .seen .ensures .two ∙ sym (s .before .before .before .two .ensures) ∙ not-false _ (s .before .before .if1 .left) in
-    close-big _ _ _ _ _ _ _ (s .seen .ensures) two _ (c .before .before .before .before .get .ensures) (c .before .before .before .if2 .left) _ _ _ (c .before .before .seen2 .ensures)
-    (not-true _ (c .if3 .taken))
+    let i = c .before .before in
+    let s = i .before .before .before in
+    let t = s .before .before in
+    close-big _ _ _ _ _ (t .before .two .ensures) (not-false _ (t .if1 .left)) _ _ _ (s .seen .ensures .0)
+    (s .seen .ensures .1) (i .before .get .ensures) (i .if2 .left) _ (c .before .two2 .ensures) (not-true _ (c .if3 .taken))
 
 mul-seen : tie.Need-mul-seen
 mul-seen c = search needs
@@ -58,8 +60,10 @@ mul-seen c = search needs
 shared-slice-read-seen : tie.Need-shared-slice-read-seen
 shared-slice-read-seen c = search needs
 
-seen-requires-3 : tie.Need-seen-requires-3
-seen-requires-3 c κs = let q = c .before .before .before .before .before .before .before .before .before .before .before .before .before .before .before .before .pre in (q .0, top-fit _ _ (q .3) (q .1))
+seen-requires-2 : tie.Need-seen-requires-2
+seen-requires-2 c κs =
+    let q = c .before .before .before .before .before .before .before .before .before .before .before .before .before .before .before .pre in
+    top-fit _ _ (q .3) (q .1)
 
 move-loop-requires : tie.Need-move-loop-requires
 move-loop-requires c κs = tt
@@ -72,11 +76,16 @@ same-length-7 c = c .before .before .before .before .move-loop .kept .1 .0
 
 returns-4 : tie.Need-returns-4
 returns-4 c =
-    let s = c .before .before .before .before .before .before .before .before .before .before .before .before .before .before .before in
-    let two = s .seen .ensures .two ∙ sym (s .before .before .before .two .ensures) ∙ not-false _ (s .before .before .if1 .left) in
-    c .before .before .before .before .move-loop .ensures
-    ∙ close-loop _ _ _ _ _ _ _ (s .seen .ensures) two _ (c .before .before .before .before .before .before .before .before .before .before .before .before .before .get .ensures) (c .before .before .before .before .before .before .before .before .before .before .before .before .if2 .left) _ _ _ (c .before .before .before .before .before .before .before .before .before .before .before .seen2 .ensures)
-    (not-false _ (c .before .before .before .before .before .before .before .before .before .if3 .left)) _ _ _ (c .before .before .before .before .before .before .before .seen3 .ensures)
+    let m = c .before .before .before .before in
+    let a = m .before .before .before in
+    let b = a .before .before in
+    let i = b .before .before in
+    let s = i .before .before .before in
+    let t = s .before .before in
+    m .move-loop .ensures
+    ∙ close-loop _ _ _ _ _ (t .before .two .ensures) (not-false _ (t .if1 .left)) _ _ _ (s .seen .ensures .0)
+    (s .seen .ensures .1) (i .before .get .ensures) (i .if2 .left) _ (b .before .two2 .ensures)
+    (not-false _ (b .if3 .left)) _ _ (a .seen2 .ensures .0) (a .seen2 .ensures .1)
 
 pub close-point-spec : {M : Type 1} → statement M
 close-point-spec =
@@ -90,13 +99,13 @@ close-point-spec =
     same-length-2
     same-length-3
     returns-2
-    seen-requires-2
+    two-requires-2
     same-length-4
     same-length-5
     returns-3
     mul-seen
     shared-slice-read-seen
-    seen-requires-3
+    seen-requires-2
     move-loop-requires
     same-length-6
     same-length-7

@@ -1,7 +1,6 @@
 use mathlib.Core.Path.{sym}
 use lib.ListN.{length-map}
-use Rattle.table.proofs.Front.{front-in, front-long}
-use Rattle.cases.proofs.Blank.{blank-in, blank-front}
+use Rattle.table.proofs.Front.{front-in, front-long, blank-in, blank-front}
 use Rattle.join_cases.proofs.one.join.Statement.{statement}
 use Rattle.join_cases.proofs.one.join.Tie as tie
 

@@ -1,4 +1,4 @@
-use Rattle.cases.proofs.Blank.{blank-in, blank-front}
+use Rattle.table.proofs.Front.{blank-in, blank-front}
 use Rattle.level_cases.proofs.tried.draw.Statement.{statement}
 use Rattle.level_cases.proofs.tried.draw.Tie as tie
 

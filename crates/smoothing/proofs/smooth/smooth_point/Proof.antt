@@ -1,4 +1,4 @@
-use mathlib.Core.Path.{refl, sym, _∙_}
+use mathlib.Core.Path.{refl, _∙_}
 use borrow.Author.Tests.{not-true, not-false}
 use Rattle.smoothing.proofs.Splicing.{smooth-other, smooth-two}
 use Rattle.smoothing.proofs.smooth.smooth_point.Statement.{statement}
@@ -12,11 +12,10 @@ same-length c = refl
 
 returns : tie.Need-returns
 returns c =
-    let t = c .before .two in
-    smooth-other _ _ _ _ _ (record { two = t .ensures; first = refl; last = refl }) (not-true _ (c .if1 .taken))
+    smooth-other _ _ _ (c .before .two .ensures) (not-true _ (c .if1 .taken))
 
 seen-requires : tie.Need-seen-requires
-seen-requires c κs = c .before .before .before .before .before .before .pre
+seen-requires c κs = c .before .before .before .before .before .before .pre .1
 
 smooth-edge-requires : tie.Need-smooth-edge-requires
 smooth-edge-requires c κs = tt
@@ -32,7 +31,8 @@ returns-2 c =
     let s = c .before .before .before .before .before .before .before in
     let t = c .before .before .before .before .before .before .before .before .before .before .two in
     c .before .before .before .before .smooth-edge .ensures
-    ∙ smooth-two _ _ _ _ _ (s .seen .ensures) (s .seen .ensures .two ∙ sym (t .ensures) ∙ not-false _ (c .before .before .before .before .before .before .before .before .before .if1 .left))
+    ∙ smooth-two _ _ _ (t .ensures) (not-false _ (c .before .before .before .before .before .before .before .before .before .if1 .left))
+    _ _ (s .seen .ensures .0) (s .seen .ensures .1)
 
 pub smooth-point-spec : {M : Type 1} → statement M
 smooth-point-spec =

@@ -1,7 +1,7 @@
 use Rattle.plane.specs.Dart.{mark}
 use borrow.Author.Tests.{eq-eqb, ne-eqb}
-use Rattle.curves.proofs.link.where_linked.Statement.{statement}
-use Rattle.curves.proofs.link.where_linked.Tie as tie
+use Rattle.table.proofs.entry.where_linked.Statement.{statement}
+use Rattle.table.proofs.entry.where_linked.Tie as tie
 
 returns : tie.Need-returns
 unfolding mark

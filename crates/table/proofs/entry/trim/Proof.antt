@@ -1,6 +1,6 @@
 use native.Mathlib.Nat.{le-refl}
 use Rattle.table.proofs.Entries.{trim-entry}
-use Rattle.curves.specs.Link.{alongSide}
+use Rattle.table.specs.Trim.{trimmed}
 use mathlib.Core.Path.{refl}
 use mathlib.Core.Bool.{cond}
 use Prim.Native.Nat.{_-_}
@@ -9,15 +9,15 @@ use Rattle.paper.specs.Joining.{at, on}
 use Rattle.plane.specs.Dart.{mark}
 use native.Mathlib.Omega.{arith}
 use borrow.Author.Needs.{needs}
 use Rattle.table.proofs.Filled.{Filled, filled-none, filled-more, filled-all}
-use Rattle.curves.proofs.link.trim.Statement.{statement}
-use Rattle.curves.proofs.link.trim.Tie as tie
+use Rattle.table.proofs.entry.trim.Statement.{statement}
+use Rattle.table.proofs.entry.trim.Tie as tie
 
 abbrev Inv-loop : tie.InvT-loop
-Inv-loop links side₀ n i₀ side i = Filled (length side₀) (λ d. cond (on links d) (at side₀ d) mark) i side₀ side
+Inv-loop links table₀ n i₀ table i = Filled (length table₀) (λ d. cond (on links d) (at table₀ d) mark) i table₀ table
 
 abbrev μ-loop : tie.MeasureT-loop
-μ-loop links side₀ n i₀ side i = n - i
+μ-loop links table₀ n i₀ table i = n - i
 
 loop-holds : tie.Need-loop-holds Inv-loop μ-loop
 loop-holds c = filled-none _ _ _ refl
@@ -37,11 +37,11 @@ slice-read-where-linked c = omega arith
 where-linked-requires : tie.Need-where-linked-requires Inv-loop μ-loop
 where-linked-requires c κs = search needs
 
-mul-side : tie.Need-mul-side Inv-loop μ-loop
-mul-side c = search needs
+mul-table : tie.Need-mul-table Inv-loop μ-loop
+mul-table c = search needs
 
-slice-write-side : tie.Need-slice-write-side Inv-loop μ-loop
-slice-write-side c = omega arith
+slice-write-table : tie.Need-slice-write-table Inv-loop μ-loop
+slice-write-table c = omega arith
 
 add-i : tie.Need-add-i Inv-loop μ-loop
 add-i c = omega arith
@@ -54,7 +54,7 @@ loop-again c =
     let s = c .before .before .before .before .before .before .before in
     let f = c .before .before .before .before .loop .inv in
     filled-more _ _ _ _ _ f _ (c .before .before .before .loop-test .taken) (trim-entry (s .args .links .now) (s
-    .args .side .now) (c .before .before .before .before .loop .side) _ _ (omega (
+    .args .table .now) (c .before .before .before .before .loop .table) _ _ (omega (
       arith,
       s .pre,
       c .before .before
@@ -66,7 +66,7 @@ same-length : tie.Need-same-length Inv-loop μ-loop
 same-length c = c .before .loop .inv .long
 
 returns : tie.Need-returns Inv-loop μ-loop
-unfolding alongSide
+unfolding trimmed
 returns c = filled-all _ _ _ _ _ (c .before .loop .inv) (omega arith)
 
 pub trim-spec : {M : Type 1} → statement M
@@ -81,8 +81,8 @@ trim-spec =
     mul-where-linked-2
     slice-read-where-linked
     where-linked-requires
-    mul-side
-    slice-write-side
+    mul-table
+    slice-write-table
     add-i
     loop-less
     loop-again
