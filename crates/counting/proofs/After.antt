@@ -8,8 +8,8 @@ use Prim.Native.Nat.{ℕ}
 use native.Mathlib.Omega.{arith}
 use types.Run.{OneOf}
 use denote.Enum.Declared.{tagOf}
-use Rattle.verdict.specs.declared.judge.Verdict.{Verdict}
-use Rattle.verdict.proofs.judge.Verdict.{the-type}
+use Rattle.verdict.specs.declared.answer.Verdict.{Verdict}
+use Rattle.verdict.proofs.answer.Verdict.{the-type}
 use Rattle.counting.specs.declared.answer.Count.{Count}
 use Rattle.counting.specs.Answer.{refused, after}
 

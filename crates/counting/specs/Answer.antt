@@ -14,7 +14,7 @@ use Rattle.plane.specs.Dart.{mark}
 use Rattle.tree.specs.Tree.{Falls}
 use Rattle.paper.specs.Refusal.{Outcome}
 use Rattle.drawing.specs.Answer.{left}
-use Rattle.verdict.specs.declared.judge.Verdict.{Verdict}
+use Rattle.verdict.specs.declared.answer.Verdict.{Verdict}
 use Rattle.counting.specs.declared.answer.Count.{Count}
 
 abbrev pub count : Count → ℕ

@@ -8,7 +8,7 @@ use Rattle.plane.specs.Dart.{mark}
 use Rattle.paper.specs.Drawing.{Tables}
 use Rattle.paper.specs.Refusal.{five}
 use Rattle.plane.proofs.Fit.{cells-fit}
-use Rattle.verdict.specs.declared.judge.Verdict.{Verdict}
+use Rattle.verdict.specs.declared.answer.Verdict.{Verdict}
 use Rattle.tree.specs.Tree.{Falls}
 use Rattle.verdict.specs.Answer.{answered}
 use Rattle.verdict.specs.Check.{checked}

@@ -17,10 +17,10 @@ use Rattle.paper.specs.Refusal.{outcome, sized, stated, five, used, countRefusa
 use Rattle.tree.specs.Tree.{known}
 use Rattle.census.specs.Census.{counts}
 use Rattle.parts.proofs.Stated.{and-end}
-use Rattle.verdict.specs.declared.judge.Verdict.{Verdict}
+use Rattle.verdict.specs.declared.answer.Verdict.{Verdict}
 use Rattle.verdict.specs.Answer.{answer, answered}
 use Rattle.verdict.specs.Check.{checkRefusal, checked}
-use Rattle.verdict.proofs.judge.Verdict.{the-type}
+use Rattle.verdict.proofs.answer.Verdict.{the-type}
 use Rattle.verdict.proofs.Refusing.{again, refused-stops, tag-number, number, work, accepted-on, accepted-work}
 use Rattle.counting.specs.declared.answer.Count.{Count}
 use Rattle.counting.specs.Answer.{values, counted, refused}

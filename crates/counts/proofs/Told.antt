@@ -10,7 +10,7 @@ use native.Mathlib.Omega.{arith}
 use Rattle.paper.specs.Drawing.{Tables}
 use Rattle.paper.specs.Refusal.{outcome, five, countRefusal}
 use Rattle.tree.specs.Tree.{known}
-use Rattle.verdict.specs.declared.judge.Verdict.{Verdict}
+use Rattle.verdict.specs.declared.answer.Verdict.{Verdict}
 use Rattle.verdict.specs.Answer.{answered}
 use Rattle.verdict.specs.Check.{checked}
 use Rattle.counting.specs.declared.answer.Count.{Count}

@@ -1,8 +1,7 @@
 use counting::answer;
 use counting::answer::Count;
 use plane::size;
-use verdict::judge;
-use verdict::judge::Verdict;
+use verdict::answer::Verdict;
 ghost use mathlib.Core.Path.{_≡_};
 ghost use mathlib.Core.List.{[], _∷_, _++_};
 ghost use Rattle.paper.specs.Refusal.{five, deepened, holed};
@@ -38,7 +37,7 @@ pub fn depth(
         (works (now (a .entry)) (now (b .entry)) (now (c .entry)) (now (d .entry)))
         ⌝ }
 {
-    let verdict = judge::check(
+    let verdict = checking::check(
         width,
         height,
         next1,
@@ -81,7 +80,7 @@ pub fn holes(
         (works (now (a .entry)) (now (b .entry)) (now (c .entry)) (now (d .entry)))
         ⌝ }
 {
-    let verdict = judge::check(
+    let verdict = checking::check(
         width,
         height,
         next1,
@@ -138,7 +137,7 @@ pub fn counts(
     if tally.len() != names {
         return Verdict::Tables;
     }
-    let verdict = judge::check(
+    let verdict = checking::check(
         width,
         height,
         next1,

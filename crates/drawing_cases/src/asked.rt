@@ -8,7 +8,6 @@ use cases::tables::Works;
 use counting::answer::Count;
 use counts::count;
 use plane::dart;
-use verdict::judge;
 ghost use Prim.Native.Nat.{_≤_};
 ghost use Rattle.cases.specs.Room.{room, Fits};
 
@@ -50,7 +49,7 @@ fn judge_of(size: Size, lengths: Lengths, tables: Tables) -> Judged
     let mut b = [lent::UNTOUCHED; lent::ROOM];
     let mut c = [lent::UNTOUCHED; lent::ROOM];
     let mut d = [lent::UNTOUCHED; lent::ROOM];
-    let answer = judge::check(
+    let answer = checking::check(
         size.width,
         size.height,
         tables::front(&next1, lengths.next1),

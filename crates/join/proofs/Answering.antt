@@ -19,7 +19,7 @@ use Rattle.paper.specs.Joining.{joined}
 use Rattle.paper.specs.Refusal.{outcome, sized, stated, cleared, five, used, adjoin, joinRefusal, merged}
 use Rattle.paper.specs.Sitting.{Joinable}
 use Rattle.paper.proofs.Judge.{judged-drawn}
-use Rattle.verdict.specs.declared.judge.Verdict.{Verdict}
+use Rattle.verdict.specs.declared.answer.Verdict.{Verdict}
 use Rattle.drawing.specs.Answer.{left}
 use Rattle.verdict.specs.Answer.{answer, answered}
 use Rattle.verdict.specs.Check.{checked}
@@ -98,7 +98,7 @@ module _ (w h : ℕ) (t : Tables) (a b : ℕ) (ws vs : List (List ℕ)) where
   abbrev rest : ℕ
   rest = numbers outside (eqb a b) unused (cond (not (adjoin w h t a b)) 9 0)
 
-  check-refused : (v : Verdict) → OneOf (1 ∷ 2 ∷ 3 ∷ []) (tagOf Rattle.verdict.proofs.judge.Verdict.the-type v)
+  check-refused : (v : Verdict) → OneOf (1 ∷ 2 ∷ 3 ∷ []) (tagOf Rattle.verdict.proofs.answer.Verdict.the-type v)
       → answered v (five t) vs ≡ checked w h t ws → (o : Joined) → o ≡ refused v → Promised o t vs
   unfolding answered merged joinRefusal
   check-refused v p e o q =

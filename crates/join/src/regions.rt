@@ -1,7 +1,6 @@
 use joining::apply;
 use pairs::answer::Joined;
 use pairs::asked;
-use verdict::judge;
 ghost use mathlib.Core.Path.{_≡_};
 ghost use mathlib.Core.List.{[]};
 ghost use Rattle.paper.specs.Refusal.{five, merged};
@@ -46,7 +45,7 @@ pub fn join(
         b)
         ⌝ }
 {
-    let verdict = judge::check(
+    let verdict = checking::check(
         width,
         height,
         next1,

@@ -10,7 +10,7 @@ use lib.Dec.{eqb}
 use borrow.Author.Tests.{eqb-true, eqb-false, ne-eqb, not-true, not-false}
 use types.Run.{OneOf}
 use denote.Enum.Declared.{tagOf}
-use Rattle.verdict.specs.declared.judge.Verdict.{Verdict}
+use Rattle.verdict.specs.declared.answer.Verdict.{Verdict}
 use Rattle.verdict.specs.Answer.{answer}
 use Rattle.verdict.proofs.Refusing.{tag-number}
 use Rattle.pairs.specs.declared.answer.Joined.{Joined}
@@ -41,7 +41,7 @@ zero-done Joined.Name e = absurd (omega arith)
 zero-done Joined.Apart e = absurd (omega arith)
 
 module _ (v : Verdict) (n : Joined) (s : Bool) where
-  pub asked-refused : OneOf (1 ∷ 2 ∷ 3 ∷ []) (tagOf Rattle.verdict.proofs.judge.Verdict.the-type v) → refused v ≡ asked v n s
+  pub asked-refused : OneOf (1 ∷ 2 ∷ 3 ∷ []) (tagOf Rattle.verdict.proofs.answer.Verdict.the-type v) → refused v ≡ asked v n s
   unfolding asked
   asked-refused p = let (j, e) = tag-number v p in rw (ne-eqb (answer v) 0 (omega arith))
 

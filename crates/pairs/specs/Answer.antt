@@ -9,7 +9,7 @@ use Prim.Native.Nat.{ℕ}
 use lib.Dec.{eqb}
 use Rattle.paper.specs.Joining.{on}
 use Rattle.verdict.specs.Answer.{answer}
-use Rattle.verdict.specs.declared.judge.Verdict.{Verdict}
+use Rattle.verdict.specs.declared.answer.Verdict.{Verdict}
 use Rattle.pairs.specs.declared.answer.Joined.{Joined}
 
 unfoldable pub number : Joined → ℕ

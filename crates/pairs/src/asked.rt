@@ -1,14 +1,14 @@
 use crate::adjoin;
 use crate::answer;
 use crate::answer::Joined;
-use verdict::judge::Verdict;
+use verdict::answer::Verdict;
 ghost use mathlib.Core.Path.{_≡_};
 ghost use mathlib.Core.Bool.{true};
 ghost use Rattle.laws.specs.Table.{some};
 ghost use Rattle.plane.specs.Size.{within};
 ghost use Rattle.plane.specs.Dart.{slots, reversal};
 ghost use Rattle.paper.specs.Joining.{shared};
-ghost use Rattle.verdict.specs.declared.judge.Verdict.{Verdict};
+ghost use Rattle.verdict.specs.declared.answer.Verdict.{Verdict};
 ghost use Rattle.pairs.specs.Answer.{named, asked};
 
 // What joining answers to two names after a check of the drawing: what the check refuses, or what is refused of the names,

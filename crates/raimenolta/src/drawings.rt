@@ -34,7 +34,7 @@ pub extern "C" fn raimenolta_check(
         (works (now («work_a» .entry)) (now («work_b» .entry)) (now («work_c» .entry)) (now («work_d» .entry)))
         ⌝ }
 {
-    let verdict = verdict::judge::check(
+    let verdict = checking::check(
         width,
         height,
         next1,

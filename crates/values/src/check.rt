@@ -1,4 +1,4 @@
-use verdict::judge::Verdict;
+use verdict::answer::Verdict;
 ghost use mathlib.Core.Path.{_≡_};
 ghost use Rattle.verdict.specs.Answer.{answer};
 

@@ -7,21 +7,17 @@ use mathlib.Core.Logic.{⊎-elim}
 use Prim.Native.Nat.{ℕ, zero, suc}
 use native.Mathlib.Omega.{arith}
 use lib.Dec.{ltb}
-use lib.ListN.{length}
 use borrow.Author.Tests.{not-true, not-false}
 use types.Run.{OneOf}
 use denote.Enum.Declared.{tagOf}
 use Rattle.plane.specs.Size.{within}
 use Rattle.paper.specs.Drawing.{Tables, judged}
 use Rattle.paper.specs.Refusal.{Outcome, outcome, stated, cleared, five}
-use Rattle.parts.specs.Given.{tables, works}
-use Rattle.parts.specs.Lengths.{lengths}
-use Rattle.parts.proofs.Stated.{stated-lengths}
 use Rattle.drawing.specs.Answer.{left}
-use Rattle.verdict.specs.declared.judge.Verdict.{Verdict}
+use Rattle.verdict.specs.declared.answer.Verdict.{Verdict}
 use Rattle.verdict.specs.Answer.{answer, answered}
 use Rattle.verdict.specs.Check.{refusal, checkRefusal, checked}
-use Rattle.verdict.proofs.judge.Verdict.{the-type}
+use Rattle.verdict.proofs.answer.Verdict.{the-type}
 
 -- The first refusal, one test after the other.
 module _ (w h : ℕ) (l : Bool) where
@@ -97,45 +93,6 @@ tag-number Verdict.Done p = absurd (⊎-elim (λ q. omega arith) (⊎-elim (λ q
 tag-number Verdict.Size p = (0, refl)
 tag-number Verdict.Tables p = (3, refl)
 tag-number Verdict.Drawing p = (4, refl)
-
--- Tables of which this is answered.
-module _ (w h : ℕ) (x s y o p a b c d : List ℕ) (v : Verdict)
-    (e : answer v
-    ≡ refusal w h
-    (lengths w h (length x) (length s) (length y) (length o) (length p) (length a) (length b) (length c) (length d))) where
-  abbrev given : Tables
-  given = tables x s y o p
-
-  abbrev lent : List (List ℕ)
-  lent = works a b c d
-
-  first : answer v ≡ refusal w h (stated w h given lent)
-  first = e ∙ ap (refusal w h) (stated-lengths w h x s y o p a b c d)
-
-  pub check-refused : OneOf (1 ∷ 2 ∷ 3 ∷ []) (tagOf the-type v) → answered v (five given) lent ≡ checked w h given lent
-  unfolding answered checked checkRefusal refusal outcome
-  check-refused q = stop (within w h) (stated w h given lent) (judged w h given) v q first
-    where
-      stop : (a b c : Bool) (r : Verdict) → OneOf (1 ∷ 2 ∷ 3 ∷ []) (tagOf the-type r)
-          → answer r ≡ cond (not a) 1 (cond (not b) 4 0)
-          → left (answer r) [] (five given) lent
-          ≡ outcome (cond (not a) 1 (cond (not b) 4 (cond (not c) 5 0))) [] (five given) (five given) lent
-      stop false b c r q e = rw e
-      stop true false c r q e = rw e
-      stop true true c r q e = let (j, p) = tag-number r q in absurd (omega arith)
-
-  module _ (f : v ≡ Verdict.Done) where
-    pub check-ready : (within w h ≡ true) × (stated w h given lent ≡ true)
-    check-ready = none-stops w h (stated w h given lent) (rw f at first)
-
-    module _ (vs : List (List ℕ)) (g : vs ≡ cleared lent) (r : Bool) (i : r ≡ judged w h given) where
-      pub check-none : not r ≡ true → answered Verdict.Drawing (five given) vs ≡ checked w h given lent
-      unfolding answered checked checkRefusal outcome
-      check-none j = rw (check-ready .0, check-ready .1, ← i, not-true r j, g)
-
-      pub check-done : not r ≡ false → answered Verdict.Done (five given) vs ≡ checked w h given lent
-      unfolding answered checked checkRefusal outcome
-      check-done j = rw (check-ready .0, check-ready .1, ← i, not-false r j, g)
 
 -- A check that left the work tables vs.
 module _ (w h : ℕ) (t : Tables) (ws vs : List (List ℕ)) where

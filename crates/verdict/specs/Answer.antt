@@ -6,7 +6,7 @@ use mathlib.Core.List.{List, []}
 use Prim.Native.Nat.{ℕ}
 use Rattle.paper.specs.Refusal.{Outcome}
 use Rattle.drawing.specs.Answer.{left}
-use Rattle.verdict.specs.declared.judge.Verdict.{Verdict}
+use Rattle.verdict.specs.declared.answer.Verdict.{Verdict}
 
 abbrev pub answer : Verdict → ℕ
 answer Verdict.Done = 0

@@ -1,2 +1,2 @@
-// Whether five tables are the drawing of some sheet.
-pub mod judge;
+// What a check of a drawing answers.
+pub mod answer;

@@ -1,78 +1,16 @@
+// The check whether five tables are the drawing of some sheet.
 use agreement::agree;
-use parts::lengths;
-use plane::size;
 use table::entry;
+use verdict::answer;
+use verdict::answer::Verdict;
 ghost use mathlib.Core.Path.{_≡_};
 ghost use mathlib.Core.Bool.{true};
 ghost use Rattle.plane.specs.Size.{within};
 ghost use Rattle.paper.specs.Drawing.{judged};
 ghost use Rattle.paper.specs.Refusal.{stated, five};
 ghost use Rattle.parts.specs.Given.{tables, works};
-ghost use Rattle.parts.specs.Lengths.{lengths};
-ghost use Rattle.verdict.specs.Check.{refusal, checked};
-ghost use Rattle.verdict.specs.Answer.{answer, answered};
-
-// What a check of a drawing answers: done, or what is refused.
-pub enum Verdict {
-    Done,
-    // The width or the height is not 1 to the greatest.
-    Size,
-    // The length of a lent table or work table is not the stated one.
-    Tables,
-    // The tables are the drawing of no sheet of this size.
-    Drawing,
-}
-
-impl Verdict {
-    // The number of the refusal, 0 for done.
-    pub fn number(self) -> u16
-        ensures { λ r. ⌜ r ≡ answer self ⌝ }
-    {
-        match self {
-            Verdict::Done => 0,
-            Verdict::Size => 1,
-            Verdict::Tables => 4,
-            Verdict::Drawing => 5,
-        }
-    }
-}
-
-// What a check of a drawing answers to a size and these lengths, of the five tables and of the work tables.
-fn refusal(
-    width: u16,
-    height: u16,
-    next1: usize,
-    side1: usize,
-    next3: usize,
-    other3: usize,
-    parent: usize,
-    a: usize,
-    b: usize,
-    c: usize,
-    d: usize,
-) -> Verdict
-    ensures { λ r. ⌜ answer r ≡ refusal width height (lengths width height next1 side1 next3 other3 parent a b c d) ⌝ }
-{
-    if !size::within(width, height) {
-        return Verdict::Size;
-    }
-    if !lengths::stated(
-        width,
-        height,
-        next1,
-        side1,
-        next3,
-        other3,
-        parent,
-        a,
-        b,
-        c,
-        d,
-    ) {
-        return Verdict::Tables;
-    }
-    Verdict::Done
-}
+ghost use Rattle.verdict.specs.Check.{checked};
+ghost use Rattle.verdict.specs.Answer.{answered};
 
 // Whether the five tables are the drawing of some sheet of this size.
 fn judge(
@@ -143,7 +81,7 @@ pub fn check(
         (works (now (a .entry)) (now (b .entry)) (now (c .entry)) (now (d .entry)))
         ⌝ }
 {
-    let answer = refusal(
+    let refused = answer::refusal(
         width,
         height,
         next1.len(),
@@ -156,10 +94,10 @@ pub fn check(
         c.len(),
         d.len(),
     );
-    let Verdict::Done = answer else {
-        return answer;
+    let Verdict::Done = refused else {
+        return refused;
     };
-    let found = judge(
+    let drawing = judge(
         width,
         height,
         next1,
@@ -173,8 +111,5 @@ pub fn check(
         d,
     );
     entry::clear_four(a, b, c, d);
-    if !found {
-        return Verdict::Drawing;
-    }
-    Verdict::Done
+    answer::found(drawing)
 }

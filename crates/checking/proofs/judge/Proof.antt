@@ -1,8 +1,8 @@
 use mathlib.Core.Path.{_∙_}
 use Rattle.parts.proofs.Stated.{stated-long}
 use Rattle.agreement.proofs.Judged.{judged-no, judged-yes}
-use Rattle.verdict.proofs.judge.judge.Statement.{statement}
-use Rattle.verdict.proofs.judge.judge.Tie as tie
+use Rattle.checking.proofs.judge.Statement.{statement}
+use Rattle.checking.proofs.judge.Tie as tie
 
 lines-agree-requires : tie.Need-lines-agree-requires
 lines-agree-requires c κs = let l = stated-long _ _ _ _ _ _ _ _ _ _ _ (c .before .before .before .before .before .before .before .before .before .before .before .before .before .pre .1) in (c .before .before .before .before .before .before .before .before .before .before .before .before .before .pre .0, l .work .0, l .work .1, l .work .2, l .work .3)

@@ -2,8 +2,8 @@ use mathlib.Core.Path.{sym, _∙_}
 use borrow.Author.Tests.{not-true, not-false}
 use Rattle.verdict.proofs.Refusing.{size-refused, tables-refused, none-refused}
 use borrow.Author.Needs.{needs}
-use Rattle.verdict.proofs.judge.refusal.Statement.{statement}
-use Rattle.verdict.proofs.judge.refusal.Tie as tie
+use Rattle.verdict.proofs.answer.refusal.Statement.{statement}
+use Rattle.verdict.proofs.answer.refusal.Tie as tie
 
 within-requires : tie.Need-within-requires
 within-requires c κs = search needs
