@@ -20,10 +20,11 @@ use Rattle.paper.specs.Joining.{Links, at, on, shared, hanging, removed, prune,
 use Rattle.paper.proofs.Held.{mask-agree}
 use Rattle.removal.specs.Links.{links}
 use Rattle.removal.proofs.Pruning.{lone-some, lone-none, prune-stop}
-use Rattle.sharing.specs.Listed.{bounds, First, Listed, Bounded}
+use Rattle.lists.specs.Listed.{bounds, First, Listed, Bounded}
+use Rattle.lists.proofs.Narrowing.{read-on, read-off}
 use Rattle.dropping.specs.Watched.{bare, Watched}
 use Rattle.sharing.specs.Mapped.{Mapped}
-use Rattle.sharing.proofs.Leading.{read-on, read-off, away-left, off-left}
+use Rattle.sharing.proofs.Leading.{away-left, off-left}
 
 -- After step 1 a list of the darts of a and b has, at each point that one dart alone leaves, a dart that went.
 module _ (w h : ℕ) (s n o : List ℕ) (a b : ℕ) (p : a < mark) (q : b < mark) (room : slots w h ≤ mark)

@@ -10,7 +10,7 @@ use Rattle.plane.specs.Dart.{dart}
 use Rattle.plane.specs.Point.{degree}
 use Rattle.paper.specs.Level.{mask}
 use Rattle.paper.specs.Joining.{on}
-use Rattle.sharing.specs.Listed.{Listed}
+use Rattle.lists.specs.Listed.{Listed}
 
 unfoldable pub bare : List ℕ → ℕ → Bool
 bare n d = not (on n d) && eqb (degree (mask (on n) (d / 4))) 1

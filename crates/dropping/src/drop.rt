@@ -10,7 +10,7 @@ ghost use Rattle.plane.specs.Size.{within};
 ghost use Rattle.plane.specs.Dart.{mark, slots, reversal};
 ghost use Rattle.removal.specs.Links.{links};
 ghost use Rattle.dropping.specs.Dropped.{dropped};
-ghost use Rattle.sharing.specs.Listed.{Bounded};
+ghost use Rattle.lists.specs.Listed.{Bounded};
 ghost use Rattle.sharing.specs.Mapped.{Mapped};
 
 // Steps 1 and 2 at a level: the darts with the sides a and b go, then hanging ends. The list has the darts with side a or

@@ -3,7 +3,6 @@ use dropping::drop;
 use enclosure::parent;
 use lowering::side;
 use pieces::points;
-use sharing::list;
 use smoothing::smooth;
 use table::entry;
 ghost use mathlib.Core.Path.{_≡_};
@@ -84,7 +83,7 @@ pub fn apply(
         (works (now («work_a» .entry)) (now («work_b» .entry)) (now («work_c» .entry)) (now («work_d» .entry))))
         ⌝ }
 {
-    let first = list::list_darts(side1, a, b, work_d);
+    let first = lists::list_darts(side1, a, b, work_d);
     drop::drop_plain_lines(
         width,
         height,
@@ -98,7 +97,7 @@ pub fn apply(
         work_b,
         work_c,
     );
-    let first3 = list::narrow(next3, first, work_d);
+    let first3 = lists::narrow(next3, first, work_d);
     drop::drop_lines(
         width,
         height,

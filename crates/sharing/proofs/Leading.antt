@@ -19,13 +19,14 @@ use Rattle.paper.specs.Level.{marked}
 use Rattle.paper.specs.Joining.{Links, at, on, shared, chase, removed}
 use Rattle.paper.proofs.Marks.{at-below, at-past}
 use Rattle.table.specs.Trim.{trimmed}
-use Rattle.table.proofs.Entries.{at-in, at-entry, at-out, on-mark, on-entry}
+use Rattle.table.proofs.Entries.{at-in, at-entry, at-out, on-mark}
 use Rattle.table.proofs.Half.{Half, half-here}
 use Rattle.removal.specs.Links.{links}
 use Rattle.removal.specs.Taken.{leaping}
 use Rattle.removal.proofs.Taking.{chases-left, chase-hops}
-use Rattle.sharing.specs.Led.{led}
-use Rattle.sharing.specs.Listed.{bounds, Bounded}
+use Rattle.lists.specs.Listed.{bounds, Bounded}
+use Rattle.chasing.specs.Led.{led}
+use Rattle.chasing.proofs.Chasing.{leaps-on, leaps-not, chase-four, led-keeps, led-past}
 use Rattle.sharing.specs.Mapped.{Mapped}
 use Rattle.sharing.proofs.Sharing.{shared-past, away-apart, shared-other}
 
@@ -40,21 +41,6 @@ on-inside t d e = go (decLt d (length t))
     go : Dec (d < length t) → d < length t
     go (yes b) = b
     go (no b) = clash e (on-mark t d (sym (at-out t d (omega arith))))
-
--- an entry, read
-module _ (t : List ℕ) (d : ℕ) (b : d < length t) where
-  pub read-on : (getD t d 0 ≡ mark → ⊥) → on t d ≡ true
-  read-on e = on-entry t d (λ z. e (sym (at-entry t d b) ∙ z))
-
-  pub read-off : getD t d 0 ≡ mark → on t d ≡ false
-  read-off e = on-mark t d (at-entry t d b ∙ e)
-
--- a next gives way to the mark
-pub gone-mark : (c : Bool) (x y : ℕ) → c ≡ true → x ≡ cond c x y
-gone-mark c x y e = rw e
-
-pub gone-next : (c : Bool) (x y : ℕ) → c ≡ false → y ≡ cond c x y
-gone-next c x y e = rw e
 
 -- a dart with neither side, or with no next, keeps what it has
 pub away-keeps : (s : List ℕ) (o : ℕ → ℕ) (a b x d : ℕ) → bounds s a b d ≡ false
@@ -78,43 +64,10 @@ pub unlink-here : (s : List ℕ) (o : ℕ → ℕ) (a b d x y r : ℕ) → x ≡
     → r ≡ cond (shared s o a b d) mark x
 unlink-here s o a b d x y r e f = f ∙ rw e
 
--- where a chase goes on
-module _ (l : Links) (f : ℕ → Bool) (d : ℕ) where
-  pub leaps-on : f d ≡ true → at (l .next) (at (l .other) d) ≡ leaping l f d
-  unfolding leaping
-  leaps-on e = rw e
-
-  pub leaps-not : f d ≡ false → d ≡ leaping l f d
-  unfolding leaping
-  leaps-not e = rw e
-
-  pub goes-on : (x r : ℕ) → x ≡ at (l .other) d → r ≡ at (l .next) x → f d ≡ true → r ≡ leaping l f d
-  goes-on x r p q e = q ∙ ap (at (l .next)) p ∙ leaps-on e
-
--- from each dart to the one after it
-pub chase-four : (l : Links) (f : ℕ → Bool) (d x y z r : ℕ) → x ≡ leaping l f d → y ≡ leaping l f x → z ≡ leaping l f y
-    → r ≡ leaping l f z → r ≡ chase l f d
-chase-four l f d x y z r p q u v =
-    v ∙ ap (leaping l f) (u ∙ ap (leaping l f) (q ∙ ap (leaping l f) p)) ∙ sym (chase-hops l f d)
-
--- a dart that a chase does not go on from
-pub chase-rests : (l : Links) (f : ℕ → Bool) (d x : ℕ) → x ≡ leaping l f d → x ≡ d → d ≡ chase l f d
-chase-rests l f d x p e = let q = sym e ∙ p in chase-four l f d d d d d q q q q
-
-pub chase-still : (l : Links) (f : ℕ → Bool) (d : ℕ) → f d ≡ false → chase l f d ≡ d
+-- a dart that stays
+chase-still : (l : Links) (f : ℕ → Bool) (d : ℕ) → f d ≡ false → chase l f d ≡ d
 unfolding chase
 chase-still l f d e = chases-left l f 4 d e
-
--- the next of a dart, by whether it has the sides a and b
-module _ (s : List ℕ) (l : Links) (a b d x : ℕ) (e : x ≡ at (l .next) d) where
-  pub led-keeps : shared s (at (l .other)) a b d ≡ true → x ≡ led s l a b d
-  unfolding led
-  led-keeps h = rw h e
-
-  pub led-past : shared s (at (l .other)) a b d ≡ false → (r : ℕ) → r ≡ chase l (shared s (at (l .other)) a b) x
-      → r ≡ led s l a b d
-  unfolding led
-  led-past h r f = f ∙ rw (h, e)
 
 -- In a map.
 module _ (s n o : List ℕ) (a b : ℕ) (p : a < mark) (q : b < mark) (fit : length s ≤ mark)

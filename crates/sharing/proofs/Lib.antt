@@ -1,4 +1,3 @@
 pub mod Leading
-mod Listing
-mod Narrowing
-pub mod Sharing
+mod Sharing
+mod Treating

@@ -1,3 +1,1 @@
-pub mod Led
-pub mod Listed
 pub mod Mapped

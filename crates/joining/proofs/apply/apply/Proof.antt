@@ -9,8 +9,8 @@ use Rattle.plane.proofs.Fit.{points-fit}
 use Rattle.paper.proofs.Marks.{within-fits}
 use Rattle.table.proofs.Cleared.{cleared-same}
 use Rattle.parts.proofs.Stated.{stated-long}
-use Rattle.sharing.specs.Listed.{bounds, Lined}
-use Rattle.sharing.proofs.Sharing.{bounded-all, bounded-on}
+use Rattle.lists.specs.Listed.{bounds, Lined}
+use Rattle.lists.proofs.Listing.{bounded-all, bounded-on}
 use Rattle.joining.proofs.Applying.{all-steps}
 use Rattle.joining.proofs.apply.apply.Statement.{statement}
 use Rattle.joining.proofs.apply.apply.Tie as tie

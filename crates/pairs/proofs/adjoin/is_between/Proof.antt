@@ -1,6 +1,6 @@
 use mathlib.Core.Path.{_∙_}
 use borrow.Author.Needs.{needs}
-use Rattle.sharing.proofs.Sharing.{shared-first, shared-second, shared-neither}
+use Rattle.chasing.proofs.Sides.{shared-first, shared-second, shared-neither}
 use Rattle.pairs.proofs.adjoin.is_between.Statement.{statement}
 use Rattle.pairs.proofs.adjoin.is_between.Tie as tie
 

@@ -4,10 +4,10 @@ use Prim.Native.Nat.{_-_}
 use native.Mathlib.Omega.{arith}
 use lib.ListN.{length}
 use Rattle.removal.specs.Links.{links}
-use Rattle.sharing.specs.Led.{led}
-use Rattle.sharing.specs.Listed.{Bounded}
+use Rattle.chasing.specs.Led.{led}
+use Rattle.lists.specs.Listed.{Bounded}
 use Rattle.sharing.proofs.Leading.{unlisted-led, led-same}
-use Rattle.sharing.proofs.Listing.{Treated, treated-none, treated-more, treated-all}
+use Rattle.sharing.proofs.Treating.{Treated, treated-none, treated-more, treated-all}
 use Rattle.sharing.proofs.shared.lead.Statement.{statement}
 use Rattle.sharing.proofs.shared.lead.Tie as tie
 

@@ -5,8 +5,8 @@ use native.Mathlib.Omega.{arith}
 use lib.ListN.{length}
 use Rattle.plane.specs.Dart.{mark}
 use Rattle.paper.specs.Joining.{at, shared}
-use Rattle.sharing.specs.Listed.{Bounded}
-use Rattle.sharing.proofs.Listing.{Treated, treated-none, treated-more, treated-all, treated-here}
+use Rattle.lists.specs.Listed.{Bounded}
+use Rattle.sharing.proofs.Treating.{Treated, treated-none, treated-more, treated-all, treated-here}
 use Rattle.sharing.proofs.shared.unlink.Statement.{statement}
 use Rattle.sharing.proofs.shared.unlink.Tie as tie
 

@@ -1,0 +1,2 @@
+pub mod Chasing
+pub mod Sides
