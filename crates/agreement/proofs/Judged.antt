@@ -26,7 +26,7 @@ use Rattle.lines.specs.Line.{nexts}
 use Rattle.sides.specs.Side.{sides}
 use Rattle.keeping.specs.Keep.{keeps}
 use Rattle.curves.specs.Link.{alongNext, alongOther}
-use Rattle.parts.specs.Given.{tables}
+use Rattle.lengths.specs.Given.{tables}
 use Rattle.parts.specs.Parts.{Lined, Kept, Curved, roundOf, masksOf, linesAgree, curvesAgree}
 use Rattle.framing.specs.Frame.{surround}
 use Rattle.parts.proofs.Whole.{line-next, line-side, curve-next, curve-other, parents-whole}

@@ -8,7 +8,7 @@ ghost use lib.ListN.{length, take};
 ghost use Rattle.plane.specs.Dart.{points, slots};
 ghost use Rattle.plane.specs.Size.{within};
 ghost use Rattle.paper.specs.Drawing.{alike};
-ghost use Rattle.parts.specs.Given.{tables};
+ghost use Rattle.lengths.specs.Given.{tables};
 ghost use Rattle.parts.specs.Parts.{masksOf, linesAgree, curvesAgree};
 
 // Whether next and side of level 1 are those of the sheet whose labels the sides tell. The masks of the points come out

@@ -11,9 +11,9 @@ use denote.Enum.Declared.{tagOf}
 use Rattle.plane.specs.Size.{within}
 use Rattle.paper.specs.Drawing.{Tables, judged}
 use Rattle.paper.specs.Refusal.{outcome, stated, cleared, five}
-use Rattle.parts.specs.Given.{tables, works}
-use Rattle.parts.specs.Lengths.{lengths}
-use Rattle.parts.proofs.Stated.{stated-lengths}
+use Rattle.lengths.specs.Given.{tables, works}
+use Rattle.lengths.specs.Lengths.{lengths}
+use Rattle.lengths.proofs.Tested.{stated-lengths}
 use Rattle.drawing.specs.Answer.{left}
 use Rattle.verdict.specs.declared.answer.Verdict.{Verdict}
 use Rattle.verdict.specs.Answer.{answer, answered}

@@ -8,7 +8,7 @@ ghost use mathlib.Core.Bool.{true};
 ghost use Rattle.plane.specs.Size.{within};
 ghost use Rattle.paper.specs.Drawing.{judged};
 ghost use Rattle.paper.specs.Refusal.{stated, five};
-ghost use Rattle.parts.specs.Given.{tables, works};
+ghost use Rattle.lengths.specs.Given.{tables, works};
 ghost use Rattle.verdict.specs.Check.{checked};
 ghost use Rattle.verdict.specs.Answer.{answered};
 

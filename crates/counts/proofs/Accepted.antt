@@ -12,7 +12,7 @@ use Rattle.verdict.specs.declared.answer.Verdict.{Verdict}
 use Rattle.tree.specs.Tree.{Falls}
 use Rattle.verdict.specs.Answer.{answered}
 use Rattle.verdict.specs.Check.{checked}
-use Rattle.parts.proofs.Stated.{stated-parent}
+use Rattle.lengths.proofs.Tested.{stated-parent}
 use Rattle.tree.proofs.Fall.{judged-falls}
 use Rattle.verdict.proofs.Refusing.{accepted-done, accepted-within, accepted-stated, accepted-judged}
 

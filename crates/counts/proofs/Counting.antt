@@ -16,7 +16,7 @@ use Rattle.paper.specs.Drawing.{Tables}
 use Rattle.paper.specs.Refusal.{outcome, sized, stated, five, used, countRefusal}
 use Rattle.tree.specs.Tree.{known}
 use Rattle.census.specs.Census.{counts}
-use Rattle.parts.proofs.Stated.{and-end}
+use Rattle.lengths.proofs.Tested.{and-end}
 use Rattle.verdict.specs.declared.answer.Verdict.{Verdict}
 use Rattle.verdict.specs.Answer.{answer, answered}
 use Rattle.verdict.specs.Check.{checkRefusal, checked}

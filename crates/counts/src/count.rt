@@ -5,7 +5,7 @@ use verdict::answer::Verdict;
 ghost use mathlib.Core.Path.{_≡_};
 ghost use mathlib.Core.List.{[], _∷_, _++_};
 ghost use Rattle.paper.specs.Refusal.{five, deepened, holed};
-ghost use Rattle.parts.specs.Given.{tables, works};
+ghost use Rattle.lengths.specs.Given.{tables, works};
 ghost use Rattle.counts.specs.Tally.{tallied};
 ghost use Rattle.verdict.specs.Answer.{answered};
 ghost use Rattle.counting.specs.Answer.{counted};

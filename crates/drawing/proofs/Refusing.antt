@@ -14,9 +14,9 @@ use denote.Enum.Declared.{tagOf}
 use Rattle.plane.specs.Size.{within}
 use Rattle.paper.specs.Drawing.{Tables}
 use Rattle.paper.specs.Refusal.{outcome, cleared, five, drawRefusal, mapped}
-use Rattle.parts.specs.Given.{tables, works}
-use Rattle.parts.specs.Lengths.{lengths}
-use Rattle.parts.proofs.Stated.{Long, stated-lengths, lengths-long}
+use Rattle.lengths.specs.Given.{tables, works}
+use Rattle.lengths.specs.Lengths.{lengths}
+use Rattle.lengths.proofs.Tested.{Long, stated-lengths, lengths-long}
 use Rattle.drawing.specs.declared.draw.Drawn.{Drawn}
 use Rattle.drawing.specs.Answer.{drawing, refusal, drawn}
 use Rattle.drawing.proofs.draw.Drawn.{the-type}

@@ -1,11 +1,10 @@
 use parts::draw;
-use parts::lengths;
 use plane::size;
 use region::names;
 use table::entry;
 ghost use mathlib.Core.Path.{_≡_};
-ghost use Rattle.parts.specs.Given.{tables, works};
-ghost use Rattle.parts.specs.Lengths.{lengths};
+ghost use Rattle.lengths.specs.Given.{tables, works};
+ghost use Rattle.lengths.specs.Lengths.{lengths};
 ghost use Rattle.paper.specs.Refusal.{five, mapped};
 ghost use Rattle.drawing.specs.Answer.{drawing as answer, refusal, drawn};
 

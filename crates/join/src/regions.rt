@@ -4,7 +4,7 @@ use pairs::asked;
 ghost use mathlib.Core.Path.{_≡_};
 ghost use mathlib.Core.List.{[]};
 ghost use Rattle.paper.specs.Refusal.{five, merged};
-ghost use Rattle.parts.specs.Given.{tables, works};
+ghost use Rattle.lengths.specs.Given.{tables, works};
 ghost use Rattle.drawing.specs.Answer.{left};
 ghost use Rattle.pairs.specs.Answer.{number};
 ghost use Rattle.join.specs.Faithful.{Faithful};

@@ -12,7 +12,7 @@ use Rattle.paper.specs.Level.{tops, marked}
 use Rattle.paper.specs.Enclosure.{parent, parents}
 use Rattle.paper.specs.Joining.{Links, at, on, smoothed, closes, closed, joined}
 use Rattle.paper.proofs.Piece.{tops-le}
-use Rattle.parts.specs.Given.{tables}
+use Rattle.lengths.specs.Given.{tables}
 use Rattle.enclosure.specs.Tops.{Rising}
 use Rattle.removal.specs.Links.{links}
 use Rattle.dropping.specs.Dropped.{dropped}

@@ -14,7 +14,7 @@ use Rattle.paper.specs.Joining.{on}
 use Rattle.paper.specs.Refusal.{stated, used}
 use Rattle.paper.proofs.Sheet.{border-below}
 use Rattle.paper.proofs.Marks.{on-marked, cells-slots, within-fits, names-side-small}
-use Rattle.parts.proofs.Stated.{stated-parent}
+use Rattle.lengths.proofs.Tested.{stated-parent}
 use Rattle.sharing.specs.Mapped.{Mapped}
 use Rattle.joining.specs.Apply.{Ready}
 use Rattle.joining.proofs.Fewer.{marked-held, on-below}

@@ -15,7 +15,7 @@ ghost use Rattle.paper.specs.Level.{tops};
 ghost use Rattle.paper.specs.Enclosure.{parents};
 ghost use Rattle.paper.specs.Joining.{at, on, smoothed, closes, joined};
 ghost use Rattle.paper.specs.Refusal.{cleared};
-ghost use Rattle.parts.specs.Given.{tables, works};
+ghost use Rattle.lengths.specs.Given.{tables, works};
 ghost use Rattle.removal.specs.Links.{links};
 ghost use Rattle.joining.specs.Apply.{Ready};
 

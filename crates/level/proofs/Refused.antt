@@ -1,5 +1,4 @@
 -- What is refused, and what is told of it.
---   seven n x o s a b c d == the lengths of the three tables and of four work tables are all n
 --   refusal w h l n k == the number of the first refusal, 0 for none
 --   levelled ..     == the outcome of a level drawing
 --   told r ts ws    == the outcome that the answer r tells
@@ -14,51 +13,15 @@ use lib.ListN.{length}
 use borrow.Author.Tests.{eqb-true, eq-eqb, ne-eqb, ltb-false, lt-ltb, le-ltb}
 use types.Run.{OneOf}
 use denote.Enum.Declared.{tagOf}
-use Rattle.laws.proofs.Test.{and-left, and-right}
 use Rattle.plane.specs.Size.{within}
 use Rattle.plane.specs.Dart.{slots}
 use Rattle.paper.specs.Refusal.{sized, cleared, outcome, levelRefusal, levelTables, levelled}
-use Rattle.parts.specs.Lengths.{four}
-use Rattle.parts.proofs.Stated.{all-four}
+use Rattle.lengths.specs.Lengths.{four, seven}
+use Rattle.lengths.proofs.Tested.{all-seven}
 use Rattle.level.specs.declared.draw.Drawn.{Drawn}
 use Rattle.level.specs.declared.draw.Drawn.the-variants.{Done, Size, Level, Sheet, Tables}
-use Rattle.level.specs.Draw.{answer, seven, refusal, told}
+use Rattle.level.specs.Draw.{answer, refusal, told}
 use Rattle.level.proofs.draw.Drawn.{the-type}
-
--- Seven lengths, one after the other.
-module _ (n x o s a b c d : ℕ) where
-  pub first-differs : x ≢ n → false ≡ seven n x o s a b c d
-  unfolding seven
-  first-differs p = rw (ne-eqb x n p)
-
-  module _ (p : x ≡ n) where
-    pub second-differs : o ≢ n → false ≡ seven n x o s a b c d
-    unfolding seven
-    second-differs q = rw (eq-eqb x n p, ne-eqb o n q)
-
-    module _ (q : o ≡ n) where
-      pub third-differs : s ≢ n → false ≡ seven n x o s a b c d
-      unfolding seven
-      third-differs r = rw (eq-eqb x n p, eq-eqb o n q, ne-eqb s n r)
-
-      pub rest-same : s ≡ n → (t : Bool) → t ≡ four n a b c d → t ≡ seven n x o s a b c d
-      unfolding seven
-      rest-same r t e = rw (eq-eqb x n p, eq-eqb o n q, eq-eqb s n r) e
-
-  pub all-seven : seven n x o s a b c d ≡ true
-      → ((x ≡ n) × (o ≡ n) × (s ≡ n)) × ((a ≡ n) × (b ≡ n) × (c ≡ n) × (d ≡ n))
-  unfolding seven
-  all-seven e =
-      let l : Bool = eqb x n && (eqb o n && (eqb s n && true)) in
-      let f = and-left l (four n a b c d) e in
-      let g = and-right (eqb x n) (eqb o n && (eqb s n && true)) f in (
-        (
-          eqb-true x n (and-left (eqb x n) (eqb o n && (eqb s n && true)) f),
-          eqb-true o n (and-left (eqb o n) (eqb s n && true) g),
-          eqb-true s n (and-left (eqb s n) true (and-right (eqb o n) (eqb s n && true) g)),
-        ),
-        all-four n a b c d (and-right l (four n a b c d) e),
-      )
 
 -- The first refusal, one test after the other.
 module _ (w h l n : ℕ) (k : Bool) where

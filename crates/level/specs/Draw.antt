@@ -1,15 +1,13 @@
 -- What the level drawing answers (the paper, "Refusal numbers and their order").
 --   answer r        == the number of the refusal that the answer r tells, 0 for done
---   seven n x o s a b c d == the lengths of the three tables and of four work tables are all n
 --   refusal w h l n k == the number of the first refusal, 0 for none: of level l, a sheet of n cells, and lengths that are
 --                      the stated ones as k says
 --   told r ts ws    == the outcome that the answer r tells: no values, and what the tables and the work tables hold
-use mathlib.Core.Bool.{Bool, true, cond, not, _&&_}
+use mathlib.Core.Bool.{Bool, cond, not}
 use mathlib.Core.List.{List, []}
 use Prim.Native.Nat.{ℕ, _*_}
 use lib.Dec.{eqb, ltb}
 use Rattle.plane.specs.Size.{within}
-use Rattle.parts.specs.Lengths.{four}
 use Rattle.paper.specs.Refusal.{Outcome}
 use Rattle.level.specs.declared.draw.Drawn.{Drawn}
 use Rattle.level.specs.declared.draw.Drawn.the-variants.{Done, Size, Level, Sheet, Tables}
@@ -20,9 +18,6 @@ answer Size = 1
 answer Level = 2
 answer Sheet = 3
 answer Tables = 4
-
-unfoldable pub seven : ℕ → ℕ → ℕ → ℕ → ℕ → ℕ → ℕ → ℕ → Bool
-seven n x o s a b c d = (eqb x n && (eqb o n && (eqb s n && true))) && four n a b c d
 
 unfoldable pub refusal : ℕ → ℕ → ℕ → ℕ → Bool → ℕ
 refusal w h l n k =

@@ -1,11 +1,11 @@
 use levels::fill;
-use parts::lengths;
 use plane::size;
 ghost use mathlib.Core.Path.{_≡_};
 ghost use mathlib.Core.List.{[], _∷_};
 ghost use Rattle.plane.specs.Dart.{slots};
 ghost use Rattle.paper.specs.Refusal.{levelled};
-ghost use Rattle.level.specs.Draw.{answer, seven, refusal, told};
+ghost use Rattle.lengths.specs.Lengths.{seven};
+ghost use Rattle.level.specs.Draw.{answer, refusal, told};
 
 // What the level drawing answers: done, or what is refused.
 pub enum Drawn {
@@ -38,31 +38,6 @@ impl Drawn {
 // The greatest level.
 const HIGHEST: u16 = 3;
 
-// Whether the lengths of the three tables and of four work tables are all n.
-fn seven(
-    n: usize,
-    next: usize,
-    other: usize,
-    side: usize,
-    a: usize,
-    b: usize,
-    c: usize,
-    d: usize,
-) -> bool
-    ensures { λ r. ⌜ r ≡ seven n next other side a b c d ⌝ }
-{
-    if next != n {
-        return false;
-    }
-    if other != n {
-        return false;
-    }
-    if side != n {
-        return false;
-    }
-    lengths::four(n, a, b, c, d)
-}
-
 // What the level drawing answers to a size, a level and these lengths, of the sheet, the three tables and the work tables.
 fn refusal(
     width: u16,
@@ -89,7 +64,7 @@ fn refusal(
         return Drawn::Sheet;
     }
     let slots = (4 * ((width + 1) * (height + 1))) as usize;
-    if !seven(slots, next, other, side, a, b, c, d) {
+    if !lengths::seven(slots, next, other, side, a, b, c, d) {
         return Drawn::Tables;
     }
     Drawn::Done

@@ -1,4 +1,3 @@
 pub mod Paper
 pub mod Part
 pub mod Whole
-pub mod Stated

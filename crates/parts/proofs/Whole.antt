@@ -24,7 +24,7 @@ use Rattle.keeping.specs.Keep.{keeps}
 use Rattle.curves.specs.Link.{keptAt, alongNext, alongOther}
 use Rattle.parts.proofs.Paper.{masked-paper, nexts-paper, sides-paper, keeps-paper, alongNext-paper, alongOther-paper}
 use Rattle.enclosure.specs.Tops.{Rising}
-use Rattle.parts.specs.Given.{tables}
+use Rattle.lengths.specs.Given.{tables}
 use Rattle.parts.specs.Parts.{Lined, Kept, Curved}
 use Rattle.framing.specs.Frame.{surround}
 

@@ -2,7 +2,7 @@
 ghost use mathlib.Core.Path.{_≡_};
 ghost use mathlib.Core.List.{[], _∷_, _++_};
 ghost use Rattle.paper.specs.Refusal.{five, merged, deepened, holed};
-ghost use Rattle.parts.specs.Given.{tables, works};
+ghost use Rattle.lengths.specs.Given.{tables, works};
 ghost use Rattle.verdict.specs.Check.{checked};
 ghost use Rattle.counts.specs.Tally.{tallied};
 ghost use Rattle.drawing.specs.Answer.{left};

@@ -1,8 +1,7 @@
-use parts::lengths;
 use plane::size;
 ghost use mathlib.Core.Path.{_≡_};
 ghost use mathlib.Core.Bool.{cond};
-ghost use Rattle.parts.specs.Lengths.{lengths};
+ghost use Rattle.lengths.specs.Lengths.{lengths};
 ghost use Rattle.verdict.specs.Check.{refusal};
 ghost use Rattle.verdict.specs.Answer.{answer};
 

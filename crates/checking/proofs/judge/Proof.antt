@@ -1,5 +1,5 @@
 use mathlib.Core.Path.{_∙_}
-use Rattle.parts.proofs.Stated.{stated-long}
+use Rattle.lengths.proofs.Tested.{stated-long}
 use Rattle.agreement.proofs.Judged.{judged-no, judged-yes}
 use Rattle.checking.proofs.judge.Statement.{statement}
 use Rattle.checking.proofs.judge.Tie as tie

@@ -8,7 +8,7 @@ use Rattle.plane.proofs.Limit.{within-limits}
 use Rattle.plane.proofs.Fit.{points-fit}
 use Rattle.paper.proofs.Marks.{within-fits}
 use Rattle.table.proofs.Cleared.{cleared-same}
-use Rattle.parts.proofs.Stated.{stated-long}
+use Rattle.lengths.proofs.Tested.{stated-long}
 use Rattle.lists.specs.Listed.{bounds, Lined}
 use Rattle.lists.proofs.Listing.{bounded-all, bounded-on}
 use Rattle.joining.proofs.Applying.{all-steps}

@@ -1,8 +1,9 @@
+// The stated lengths of the tables that a call is lent.
 ghost use mathlib.Core.Path.{_≡_};
 ghost use mathlib.Core.Bool.{true};
 ghost use Prim.Native.Nat.{_+_, _*_};
 ghost use Rattle.plane.specs.Size.{within};
-ghost use Rattle.parts.specs.Lengths.{four, lengths};
+ghost use Rattle.lengths.specs.Lengths.{four, lengths, seven};
 
 // Whether four lengths are all n.
 pub fn four(n: usize, a: usize, b: usize, c: usize, d: usize) -> bool
@@ -18,6 +19,31 @@ pub fn four(n: usize, a: usize, b: usize, c: usize, d: usize) -> bool
         return false;
     }
     d == n
+}
+
+// Whether the lengths of the three tables and of four work tables are all n.
+pub fn seven(
+    n: usize,
+    next: usize,
+    other: usize,
+    side: usize,
+    a: usize,
+    b: usize,
+    c: usize,
+    d: usize,
+) -> bool
+    ensures { λ r. ⌜ r ≡ seven n next other side a b c d ⌝ }
+{
+    if next != n {
+        return false;
+    }
+    if other != n {
+        return false;
+    }
+    if side != n {
+        return false;
+    }
+    four(n, a, b, c, d)
 }
 
 // Whether the lengths of the five tables and of four work tables are the stated ones.

@@ -1,6 +1,6 @@
-use Rattle.parts.proofs.Stated.{four-first, four-second, four-third, four-last}
-use Rattle.parts.proofs.lengths.four.Statement.{statement}
-use Rattle.parts.proofs.lengths.four.Tie as tie
+use Rattle.lengths.proofs.Tested.{four-first, four-second, four-third, four-last}
+use Rattle.lengths.proofs.four.Statement.{statement}
+use Rattle.lengths.proofs.four.Tie as tie
 
 returns : tie.Need-returns
 returns c = four-first _ _ _ _ _ (c .if1 .taken)

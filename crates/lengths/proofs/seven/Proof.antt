@@ -1,7 +1,7 @@
-use Rattle.level.proofs.Refused.{first-differs, second-differs, third-differs, rest-same}
+use Rattle.lengths.proofs.Tested.{first-differs, second-differs, third-differs, rest-same}
 use borrow.Author.Needs.{needs}
-use Rattle.level.proofs.draw.seven.Statement.{statement}
-use Rattle.level.proofs.draw.seven.Tie as tie
+use Rattle.lengths.proofs.seven.Statement.{statement}
+use Rattle.lengths.proofs.seven.Tie as tie
 
 returns : tie.Need-returns
 returns c = first-differs _ _ _ _ _ _ _ _ (c .if1 .taken)

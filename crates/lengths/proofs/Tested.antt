@@ -1,5 +1,6 @@
 -- The stated lengths, tested one after the other.
 --   four n a b c d  == the four lengths are all n
+--   seven n x o s a b c d == the lengths of three tables and of four work tables are all n
 --   lengths w h ..  == the lengths of the five tables and of four work tables are the stated ones
 use mathlib.Core.Path.{_≡_, refl, _∙_}
 use mathlib.Core.Bool.{Bool, true, false, not, _&&_}
@@ -13,8 +14,8 @@ use Rattle.laws.proofs.Test.{and-left, and-right}
 use Rattle.plane.specs.Dart.{slots}
 use Rattle.paper.specs.Drawing.{Tables}
 use Rattle.paper.specs.Refusal.{sized, stated}
-use Rattle.parts.specs.Lengths.{four, lengths}
-use Rattle.parts.specs.Given.{tables, works}
+use Rattle.lengths.specs.Lengths.{four, seven, lengths}
+use Rattle.lengths.specs.Given.{tables, works}
 
 pub and-end : (b : Bool) → b ≡ (b && true)
 and-end true = refl
@@ -71,6 +72,41 @@ all-four n a b c d e =
       eqb-true c n (and-left (eqb c n) (eqb d n && true) g),
       eqb-true d n (and-left (eqb d n) true h),
     )
+
+-- Seven lengths, one after the other.
+module _ (n x o s a b c d : ℕ) where
+  pub first-differs : x ≢ n → false ≡ seven n x o s a b c d
+  unfolding seven
+  first-differs p = rw (ne-eqb x n p)
+
+  module _ (p : x ≡ n) where
+    pub second-differs : o ≢ n → false ≡ seven n x o s a b c d
+    unfolding seven
+    second-differs q = rw (eq-eqb x n p, ne-eqb o n q)
+
+    module _ (q : o ≡ n) where
+      pub third-differs : s ≢ n → false ≡ seven n x o s a b c d
+      unfolding seven
+      third-differs r = rw (eq-eqb x n p, eq-eqb o n q, ne-eqb s n r)
+
+      pub rest-same : s ≡ n → (t : Bool) → t ≡ four n a b c d → t ≡ seven n x o s a b c d
+      unfolding seven
+      rest-same r t e = rw (eq-eqb x n p, eq-eqb o n q, eq-eqb s n r) e
+
+  pub all-seven : seven n x o s a b c d ≡ true
+      → ((x ≡ n) × (o ≡ n) × (s ≡ n)) × ((a ≡ n) × (b ≡ n) × (c ≡ n) × (d ≡ n))
+  unfolding seven
+  all-seven e =
+      let l : Bool = eqb x n && (eqb o n && (eqb s n && true)) in
+      let f = and-left l (four n a b c d) e in
+      let g = and-right (eqb x n) (eqb o n && (eqb s n && true)) f in (
+        (
+          eqb-true x n (and-left (eqb x n) (eqb o n && (eqb s n && true)) f),
+          eqb-true o n (and-left (eqb o n) (eqb s n && true) g),
+          eqb-true s n (and-left (eqb s n) true (and-right (eqb o n) (eqb s n && true) g)),
+        ),
+        all-four n a b c d (and-right l (four n a b c d) e),
+      )
 
 pub record Long (w h x s y o p a b c d : ℕ) : Type 0 where
   pub lines : (x ≡ slots w h) × (s ≡ slots w h) × (y ≡ slots w h) × (o ≡ slots w h)

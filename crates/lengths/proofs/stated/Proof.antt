@@ -2,10 +2,10 @@ use native.Mathlib.Omega.{arith}
 use Rattle.plane.specs.Dart.{points, slots}
 use Rattle.plane.proofs.Limit.{within-limits}
 use Rattle.plane.proofs.Fit.{points-fit, cells-fit}
-use Rattle.parts.proofs.Stated.{lengths-slots, lengths-names, lengths-work}
+use Rattle.lengths.proofs.Tested.{lengths-slots, lengths-names, lengths-work}
 use borrow.Author.Needs.{needs}
-use Rattle.parts.proofs.lengths.stated.Statement.{statement}
-use Rattle.parts.proofs.lengths.stated.Tie as tie
+use Rattle.lengths.proofs.stated.Statement.{statement}
+use Rattle.lengths.proofs.stated.Tie as tie
 
 add-slots : tie.Need-add-slots
 add-slots c = omega (arith, within-limits _ _ (c .pre))
