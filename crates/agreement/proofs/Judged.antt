@@ -11,7 +11,7 @@ use lib.ListN.{take}
 use borrow.Author.Tests.{not-true, not-false}
 use Rattle.laws.specs.Table.{table}
 use Rattle.laws.proofs.Test.{and-left, and-right}
-use Rattle.plane.specs.Size.{within}
+use Rattle.limits.specs.Size.{within}
 use Rattle.plane.specs.Dart.{points, slots}
 use Rattle.paper.specs.Name.{names}
 use Rattle.paper.specs.Level.{side, tops}

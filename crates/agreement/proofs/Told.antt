@@ -13,9 +13,9 @@ use native.Mathlib.Numerals.{add-one}
 use native.Mathlib.Omega.{arith}
 use lib.ListN.{length, set, take, length-set}
 use lib.Seq.{take-suc-set, take-all, append-snoc}
-use Rattle.plane.specs.Size.{within}
+use Rattle.limits.specs.Size.{within}
 use Rattle.plane.specs.Dart.{mark, dart}
-use Rattle.plane.proofs.Limit.{within-limits}
+use Rattle.limits.proofs.Limit.{within-limits}
 use Rattle.paper.specs.Joining.{at}
 use Rattle.paper.specs.Drawing.{recover, recovered}
 use Rattle.plane.proofs.Fit.{cells-fit}

@@ -6,7 +6,7 @@ ghost use mathlib.Core.Path.{_≡_};
 ghost use mathlib.Core.Bool.{true, _&&_};
 ghost use lib.ListN.{length, take};
 ghost use Rattle.plane.specs.Dart.{points, slots};
-ghost use Rattle.plane.specs.Size.{within};
+ghost use Rattle.limits.specs.Size.{within};
 ghost use Rattle.paper.specs.Drawing.{alike};
 ghost use Rattle.lengths.specs.Given.{tables};
 ghost use Rattle.parts.specs.Parts.{masksOf, linesAgree, curvesAgree};

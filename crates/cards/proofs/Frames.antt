@@ -10,7 +10,7 @@ use lib.Dec.{eqb}
 use lib.ListN.{length, take}
 use lib.Seq.{slice}
 use Rattle.laws.proofs.Test.{and-left}
-use Rattle.plane.specs.Size.{within}
+use Rattle.limits.specs.Size.{within}
 use Rattle.deck.specs.Card.{columns, places, blank, every, same, between, visible, card, whole}
 use Rattle.columns.specs.Layout.{heading}
 use Rattle.columns.proofs.Cards.{card-columns, card-number}

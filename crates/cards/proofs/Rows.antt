@@ -10,8 +10,8 @@ use lib.ListN.{length, getD, take, drop, replicate, length-drop, take-append-dro
 use lib.Seq.{slice, take-at, drop-at, length-take-le, drop-cons, take-take}
 use borrow.Author.Tests.{ne-eqb}
 use Rattle.laws.proofs.Test.{and-right}
-use Rattle.plane.specs.Size.{within}
-use Rattle.plane.proofs.Limit.{within-limits}
+use Rattle.limits.specs.Size.{within}
+use Rattle.limits.proofs.Limit.{within-limits}
 use Rattle.deck.specs.Card.{columns, places, long, blank, feed, every, same, visible, digit, digits, padded, card}
 use Rattle.deck.specs.Card.{whole}
 use Rattle.deck.proofs.Parts.{is-whole, whole-is}

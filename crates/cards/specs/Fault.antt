@@ -16,7 +16,7 @@ use mathlib.Core.List.{List}
 use Prim.Native.Nat.{ℕ, zero, suc, _+_, _*_, _-_}
 use lib.Dec.{eqb}
 use lib.ListN.{length, getD, take, drop}
-use Rattle.plane.specs.Size.{within}
+use Rattle.limits.specs.Size.{within}
 use Rattle.deck.specs.Card.{columns, places, blank, every, same, between, visible, digits, padded, whole}
 use Rattle.columns.specs.Layout.{heading}
 

@@ -8,7 +8,7 @@ use native.Mathlib.Omega.{arith}
 use lib.ListN.{length}
 use types.Run.{OneOf}
 use denote.Enum.Declared.{tagOf}
-use Rattle.plane.specs.Size.{within}
+use Rattle.limits.specs.Size.{within}
 use Rattle.paper.specs.Drawing.{Tables, judged}
 use Rattle.paper.specs.Refusal.{outcome, stated, cleared, five}
 use Rattle.lengths.specs.Given.{tables, works}

@@ -5,7 +5,7 @@ use verdict::answer;
 use verdict::answer::Verdict;
 ghost use mathlib.Core.Path.{_≡_};
 ghost use mathlib.Core.Bool.{true};
-ghost use Rattle.plane.specs.Size.{within};
+ghost use Rattle.limits.specs.Size.{within};
 ghost use Rattle.paper.specs.Drawing.{judged};
 ghost use Rattle.paper.specs.Refusal.{stated, five};
 ghost use Rattle.lengths.specs.Given.{tables, works};

@@ -6,8 +6,8 @@ use mathlib.Core.Bool.{true}
 use Prim.Native.Nat.{ℕ, zero, suc, _+_, _*_, _≤_, _<_}
 use native.Mathlib.Nat.{zero-mul, suc-mul, mul-comm, add-comm}
 use native.Mathlib.Omega.{arith}
-use Rattle.plane.specs.Size.{within}
-use Rattle.plane.proofs.Limit.{within-limits}
+use Rattle.limits.specs.Size.{within}
+use Rattle.limits.proofs.Limit.{within-limits}
 use Rattle.deck.specs.Card.{columns, measured}
 use Rattle.deck.proofs.Parts.{is-measured}
 use Rattle.columns.specs.Layout.{rowCards, held}

@@ -1,6 +1,5 @@
 use counting::answer;
 use counting::answer::Count;
-use plane::size;
 use verdict::answer::Verdict;
 ghost use mathlib.Core.Path.{_≡_};
 ghost use mathlib.Core.List.{[], _∷_, _++_};
@@ -127,7 +126,7 @@ pub fn counts(
         (works (now (a .entry)) (now (b .entry)) (now (c .entry)) (now (d .entry)))
         ⌝ }
 {
-    if !size::within(width, height) {
+    if !limits::within(width, height) {
         return Verdict::Size;
     }
     let names = (width * height + 1) as usize;

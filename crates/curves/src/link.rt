@@ -3,7 +3,7 @@ use table::entry;
 ghost use mathlib.Core.Path.{_≡_};
 ghost use mathlib.Core.Bool.{true, cond};
 ghost use lib.ListN.{length};
-ghost use Rattle.plane.specs.Size.{within};
+ghost use Rattle.limits.specs.Size.{within};
 ghost use Rattle.plane.specs.Dart.{mark, slots};
 ghost use Rattle.paper.specs.Joining.{at};
 ghost use Rattle.curves.specs.Link.{starts, lastOf, back, alongNext, alongOther};

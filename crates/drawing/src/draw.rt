@@ -1,5 +1,4 @@
 use parts::draw;
-use plane::size;
 use region::names;
 use table::entry;
 ghost use mathlib.Core.Path.{_≡_};
@@ -50,7 +49,7 @@ fn refusal(
 ) -> Drawn
     ensures { λ r. ⌜ answer r ≡ refusal width height sheet (lengths width height next1 side1 next3 other3 parents a b c d) ⌝ }
 {
-    if !size::within(width, height) {
+    if !limits::within(width, height) {
         return Drawn::Size;
     }
     if sheet != (width * height) as usize {

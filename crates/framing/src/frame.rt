@@ -3,7 +3,7 @@ ghost use mathlib.Core.Bool.{true};
 ghost use mathlib.Core.List.{map};
 ghost use Prim.Native.Nat.{suc, _+_, _*_, _≤_};
 ghost use lib.ListN.{length};
-ghost use Rattle.plane.specs.Size.{within};
+ghost use Rattle.limits.specs.Size.{within};
 ghost use Rattle.plane.specs.Dart.{points};
 ghost use Rattle.paper.specs.Name.{named};
 ghost use Rattle.framing.specs.Frame.{Down, framed};

@@ -2,7 +2,6 @@ use cards::frame;
 use columns::bytes;
 use columns::layout;
 use deck::card::COLUMNS;
-use plane::size;
 ghost use mathlib.Core.Path.{_≡_};
 ghost use Prim.Native.Nat.{_-_};
 ghost use lib.ListN.{getD};
@@ -54,7 +53,7 @@ pub fn refusal(card: &[u8]) -> u16
     }
     let width = width(card);
     let height = height(card);
-    if !size::within(width, height) {
+    if !limits::within(width, height) {
         return 21;
     }
     let content = layout::heading(width, height);

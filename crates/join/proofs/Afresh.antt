@@ -3,7 +3,7 @@
 use mathlib.Core.Path.{_≡_, sym, ap, _∙_}
 use mathlib.Core.Bool.{true}
 use Prim.Native.Nat.{ℕ}
-use Rattle.plane.specs.Size.{within}
+use Rattle.limits.specs.Size.{within}
 use Rattle.paper.specs.Drawing.{Tables, Drawn}
 use Rattle.paper.specs.Joining.{joined}
 use Rattle.paper.specs.Sitting.{Joinable}

@@ -13,7 +13,7 @@ use borrow.Author.Tests.{eqb-true, eqb-false, not-false}
 use types.Run.{OneOf}
 use denote.Enum.Declared.{tagOf}
 use Rattle.laws.proofs.Test.{and-left, and-right}
-use Rattle.plane.specs.Size.{within}
+use Rattle.limits.specs.Size.{within}
 use Rattle.paper.specs.Drawing.{Tables, Drawn}
 use Rattle.paper.specs.Joining.{joined}
 use Rattle.paper.specs.Refusal.{outcome, sized, stated, cleared, five, used, adjoin, joinRefusal, merged}

@@ -9,7 +9,7 @@ use native.Mathlib.Omega.{arith}
 use lib.Dec.{eqb}
 use lib.ListN.{length, take, drop, length-take}
 use borrow.Author.Tests.{eqb-true, eq-eqb, ne-eqb}
-use Rattle.plane.specs.Size.{within}
+use Rattle.limits.specs.Size.{within}
 use Rattle.deck.specs.declared.answer.Read.{Read}
 use Rattle.deck.specs.declared.answer.Read.the-variants.{Sheet, Refused}
 use Rattle.deck.specs.Card.{long, whole}

@@ -6,7 +6,7 @@ use headers::header;
 ghost use mathlib.Core.Path.{_≡_};
 ghost use mathlib.Core.Bool.{true};
 ghost use lib.ListN.{take};
-ghost use Rattle.plane.specs.Size.{within};
+ghost use Rattle.limits.specs.Size.{within};
 ghost use Rattle.deck.specs.Card.{long};
 ghost use Rattle.columns.specs.Layout.{rowCards};
 ghost use Rattle.judging.specs.Judging.{rows, judged};

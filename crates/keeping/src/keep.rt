@@ -5,7 +5,7 @@ ghost use mathlib.Core.Bool.{true, _||_, _&&_, not};
 ghost use lib.Dec.{eqb};
 ghost use lib.ListN.{length, replicate};
 ghost use Rattle.laws.specs.Table.{table, number};
-ghost use Rattle.plane.specs.Size.{within};
+ghost use Rattle.limits.specs.Size.{within};
 ghost use Rattle.plane.specs.Dart.{points};
 ghost use Rattle.rules.specs.Turn.{kinding};
 ghost use Rattle.paper.specs.Joining.{at};

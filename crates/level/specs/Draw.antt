@@ -7,7 +7,7 @@ use mathlib.Core.Bool.{Bool, cond, not}
 use mathlib.Core.List.{List, []}
 use Prim.Native.Nat.{ℕ, _*_}
 use lib.Dec.{eqb, ltb}
-use Rattle.plane.specs.Size.{within}
+use Rattle.limits.specs.Size.{within}
 use Rattle.paper.specs.Refusal.{Outcome}
 use Rattle.level.specs.declared.draw.Drawn.{Drawn}
 use Rattle.level.specs.declared.draw.Drawn.the-variants.{Done, Size, Level, Sheet, Tables}

@@ -1,5 +1,4 @@
 use levels::fill;
-use plane::size;
 ghost use mathlib.Core.Path.{_≡_};
 ghost use mathlib.Core.List.{[], _∷_};
 ghost use Rattle.plane.specs.Dart.{slots};
@@ -54,7 +53,7 @@ fn refusal(
 ) -> Drawn
     ensures { λ r. ⌜ answer r ≡ refusal width height level sheet (seven (slots width height) next other side a b c d) ⌝ }
 {
-    if !size::within(width, height) {
+    if !limits::within(width, height) {
         return Drawn::Size;
     }
     if HIGHEST < level {

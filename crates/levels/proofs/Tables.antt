@@ -7,7 +7,7 @@ use mathlib.Core.Logic.{_≢_}
 use Prim.Native.Nat.{ℕ, zero, suc, _≤_, _<_}
 use native.Mathlib.Omega.{arith}
 use borrow.Author.Tests.{eq-eqb, ne-eqb}
-use Rattle.plane.specs.Size.{within}
+use Rattle.limits.specs.Size.{within}
 use Rattle.paper.specs.Name.{names}
 use Rattle.paper.specs.Level.{tops}
 use Rattle.paper.specs.Joining.{on}

@@ -6,17 +6,16 @@ mod text;
 use deck::answer::Read;
 use deck::card::LONG;
 use libc::STDIN_FILENO;
-use plane::size;
 use reading::read::CELLS;
 ghost use mathlib.Core.Path.{_≡_};
 ghost use mathlib.Core.Bool.{true};
 ghost use Prim.Native.Nat.{_*_, _≤_};
 ghost use lib.ListN.{length};
-ghost use Rattle.plane.specs.Size.{within};
+ghost use Rattle.limits.specs.Size.{within};
 ghost use Rattle.plane.specs.Dart.{slots};
 
 // The greatest width and the greatest height.
-const WIDEST: usize = size::WIDEST as usize;
+const WIDEST: usize = limits::WIDEST as usize;
 
 // The most slots of darts of a sheet, which are more than its names.
 const SLOTS: usize = 4 * (WIDEST + 1) * (WIDEST + 1);
@@ -168,7 +167,7 @@ fn slots_of(width: u16, height: u16) -> usize
 fn list_sheet(width: u16, height: u16, cells: &[u16])
     requires { ⌜ length (now cells) ≡ 5184 ⌝ }
 {
-    if !size::within(width, height) {
+    if !limits::within(width, height) {
         return;
     }
     let n = cells_of(width, height);

@@ -5,7 +5,7 @@ use verdict::answer::Verdict;
 ghost use mathlib.Core.Path.{_≡_};
 ghost use mathlib.Core.Bool.{true};
 ghost use Rattle.laws.specs.Table.{some};
-ghost use Rattle.plane.specs.Size.{within};
+ghost use Rattle.limits.specs.Size.{within};
 ghost use Rattle.plane.specs.Dart.{slots, reversal};
 ghost use Rattle.paper.specs.Joining.{shared};
 ghost use Rattle.verdict.specs.declared.answer.Verdict.{Verdict};

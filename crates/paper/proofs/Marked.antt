@@ -13,7 +13,7 @@ use lib.Dec.{ltb}
 use Rattle.laws.specs.Table.{listed, table, number, count, some}
 use Rattle.laws.specs.Least.{lower, tie, ties, least}
 use Rattle.laws.specs.Run.{run}
-use Rattle.plane.specs.Size.{widest, within}
+use Rattle.limits.specs.Size.{widest, within}
 use Rattle.plane.specs.Dart.{mark, points, slots, dart, point, direction, beside, far, turned, reversal, stays, line}
 use Rattle.plane.specs.Point.{bits, half, has, corner, right, left, parts, present, degree, inline}
 use Rattle.rules.specs.Turn.{turn}

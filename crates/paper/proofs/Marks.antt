@@ -17,10 +17,10 @@ use borrow.Author.Tests.{ltb-true, eq-eqb, ne-eqb}
 use Rattle.laws.specs.Run.{run}
 use Rattle.laws.proofs.Table.{length-table, getD-table, getD-table-past, table-agree}
 use Rattle.laws.proofs.Test.{and-left}
-use Rattle.plane.specs.Size.{within}
+use Rattle.limits.specs.Size.{within}
 use Rattle.plane.specs.Dart.{mark, points, slots, point, direction, far}
 use Rattle.plane.specs.Point.{right, corner}
-use Rattle.plane.proofs.Limit.{within-limits}
+use Rattle.limits.proofs.Limit.{within-limits}
 use Rattle.plane.proofs.Darts.{four, direction-below, line-below}
 use Rattle.paper.specs.Name.{names, named, cells}
 use Rattle.paper.specs.Level.{side, next, last, along, marked}

@@ -5,7 +5,7 @@ use mathlib.Core.List.{List}
 use Prim.Native.Nat.{ℕ, _+_, _*_, _≤_, _<_}
 use lib.ListN.{take}
 use Rattle.laws.specs.Table.{table}
-use Rattle.plane.specs.Size.{within}
+use Rattle.limits.specs.Size.{within}
 use Rattle.plane.specs.Dart.{mark, points, slots}
 use Rattle.paper.specs.Name.{names}
 use Rattle.paper.specs.Level.{side, border, next, along, plain, tops, kept3, among, level, marked}

@@ -5,7 +5,7 @@ ghost use mathlib.Core.Bool.{true, cond};
 ghost use Prim.Native.Nat.{suc, _+_, _-_, _<_, _≤_};
 ghost use lib.ListN.{length};
 ghost use Rattle.laws.specs.Least.{tie};
-ghost use Rattle.plane.specs.Size.{widest, within};
+ghost use Rattle.limits.specs.Size.{widest, within};
 ghost use Rattle.plane.specs.Dart.{mark, points, slots, dart};
 ghost use Rattle.paper.specs.Level.{tops};
 ghost use Rattle.paper.specs.Joining.{on};

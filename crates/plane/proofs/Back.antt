@@ -6,10 +6,10 @@ use native.Mathlib.Nat.{mod-lt, div-add-mod', mul-le-mul}
 use native.Mathlib.Omega.{arith}
 use lib.Dec.{leb}
 use borrow.Author.Tests.{leb-true, le-leb, lt-ltb}
-use Rattle.plane.specs.Size.{within}
+use Rattle.limits.specs.Size.{within}
 use Rattle.plane.specs.Dart.{mark, made, point, direction, beside, far, turned, reversal, stays, line, reversed}
 use Rattle.laws.proofs.Test.{and-left, and-right}
-use Rattle.plane.proofs.Limit.{Within, within-limits}
+use Rattle.limits.proofs.Limit.{Within, within-limits}
 
 -- the points of a sheet are few
 low : (w h p : ℕ) → Within w h → p / (w + 1) ≤ h → p ≤ 5328

@@ -4,9 +4,9 @@ use mathlib.Core.Bool.{true}
 use Prim.Native.Nat.{ℕ, _+_, _*_, _≤_, _<_}
 use native.Mathlib.Nat.{le-trans, mul-le-mul-left, mul-le-mul-right}
 use native.Mathlib.Omega.{arith}
-use Rattle.plane.specs.Size.{widest, within}
+use Rattle.limits.specs.Size.{widest, within}
 use Rattle.plane.specs.Dart.{mark, points, slots, dart}
-use Rattle.plane.proofs.Limit.{within-limits}
+use Rattle.limits.proofs.Limit.{within-limits}
 
 product-le : (a b m n : ℕ) → a ≤ m → b ≤ n → a * b ≤ m * n
 product-le a b m n p q = le-trans (mul-le-mul-right b p) (mul-le-mul-left m q)

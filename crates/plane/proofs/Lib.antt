@@ -3,7 +3,6 @@ mod Back
 pub mod Count
 pub mod Darts
 pub mod Fit
-pub mod Limit
 pub mod Mask
 pub mod Points
 pub mod Reach

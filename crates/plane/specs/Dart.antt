@@ -11,7 +11,7 @@
 use mathlib.Core.Bool.{Bool, cond, _&&_}
 use Prim.Native.Nat.{ℕ, zero, suc, _+_, _*_, _-_, _/_, _%_}
 use lib.Dec.{ltb, leb}
-use Rattle.plane.specs.Size.{within}
+use Rattle.limits.specs.Size.{within}
 
 unfoldable pub mark : ℕ
 mark = 65535

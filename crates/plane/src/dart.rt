@@ -1,8 +1,7 @@
-use crate::size;
 ghost use mathlib.Core.Path.{_≡_};
 ghost use mathlib.Core.Bool.{_&&_};
 ghost use Prim.Native.Nat.{_-_, _+_, _<_};
-ghost use Rattle.plane.specs.Size.{within};
+ghost use Rattle.limits.specs.Size.{within};
 ghost use Rattle.plane.specs.Dart.{made, point, direction, beside, stays, line, reversed};
 
 // "None" in every table of links, sides or parents: never a dart, a point or a name.
@@ -88,7 +87,7 @@ impl Dart {
     pub fn on_sheet(self, width: u16, height: u16) -> bool
         ensures { λ r. ⌜ r ≡ (within width height && line width height (self .number)) ⌝ }
     {
-        if !size::within(width, height) {
+        if !limits::within(width, height) {
             return false;
         }
         let point = self.point();

@@ -1,3 +1,2 @@
 // The plane of a sheet: its size, its points and darts.
 pub mod dart;
-pub mod size;

@@ -10,7 +10,7 @@ use native.Mathlib.Numerals.{add-one, sub-one}
 use native.Mathlib.Omega.{arith}
 use lib.ListN.{length, take, drop, replicate, length-append}
 use lib.Seq.{paste, length-paste, take-paste, take-length, length-take-le}
-use Rattle.plane.specs.Size.{within}
+use Rattle.limits.specs.Size.{within}
 use Rattle.plane.proofs.Fit.{cells-fit}
 use Rattle.deck.specs.declared.answer.Read.the-variants.{Sheet}
 use Rattle.deck.specs.Card.{long, part}

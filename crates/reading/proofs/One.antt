@@ -11,7 +11,7 @@ use lib.Dec.{eqb}
 use lib.ListN.{length, take, drop, length-append, length-take, length-drop, take-append-drop}
 use lib.Seq.{take-at, drop-at, length-take-le}
 use borrow.Author.Tests.{eqb-true, eqb-false}
-use Rattle.plane.specs.Size.{within}
+use Rattle.limits.specs.Size.{within}
 use Rattle.deck.specs.declared.answer.Read.{Read}
 use Rattle.deck.specs.declared.answer.Read.the-variants as read
 use Rattle.deck.specs.declared.answer.Written.the-variants as written

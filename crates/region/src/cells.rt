@@ -5,7 +5,7 @@ ghost use Prim.Native.Nat.{suc, _*_, _-_, _%_, _<_, _≤_};
 ghost use lib.Dec.{eqb, ltb};
 ghost use lib.ListN.{length};
 ghost use Rattle.laws.specs.Least.{tie, least};
-ghost use Rattle.plane.specs.Size.{within};
+ghost use Rattle.limits.specs.Size.{within};
 ghost use Rattle.paper.specs.Name.{label, west, north};
 ghost use Rattle.forest.specs.Forest.{Forest, Grown};
 

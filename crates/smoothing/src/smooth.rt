@@ -5,7 +5,7 @@ ghost use mathlib.Core.Path.{_≡_};
 ghost use mathlib.Core.Bool.{true};
 ghost use mathlib.Core.List.{List};
 ghost use Prim.Native.Nat.{ℕ, _<_};
-ghost use Rattle.plane.specs.Size.{within};
+ghost use Rattle.limits.specs.Size.{within};
 ghost use Rattle.plane.specs.Dart.{mark, dart};
 ghost use Rattle.rules.specs.Turn.{kinding};
 ghost use Rattle.paper.specs.Joining.{spliced, smooth, smoothed};

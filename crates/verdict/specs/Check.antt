@@ -4,7 +4,7 @@
 use mathlib.Core.Bool.{Bool, cond, not}
 use mathlib.Core.List.{List, []}
 use Prim.Native.Nat.{ℕ}
-use Rattle.plane.specs.Size.{within}
+use Rattle.limits.specs.Size.{within}
 use Rattle.paper.specs.Drawing.{Tables, judged}
 use Rattle.paper.specs.Refusal.{Outcome, outcome, stated, five}
 

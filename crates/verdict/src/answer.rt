@@ -1,4 +1,3 @@
-use plane::size;
 ghost use mathlib.Core.Path.{_≡_};
 ghost use mathlib.Core.Bool.{cond};
 ghost use Rattle.lengths.specs.Lengths.{lengths};
@@ -46,7 +45,7 @@ pub fn refusal(
 ) -> Verdict
     ensures { λ r. ⌜ answer r ≡ refusal width height (lengths width height next1 side1 next3 other3 parent a b c d) ⌝ }
 {
-    if !size::within(width, height) {
+    if !limits::within(width, height) {
         return Verdict::Size;
     }
     if !lengths::stated(

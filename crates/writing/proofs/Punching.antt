@@ -12,7 +12,7 @@ use native.Mathlib.Omega.{arith}
 use lib.ListN.{length, getD, take, drop, length-append, length-drop}
 use lib.Seq.{length-take-le, take-all, take-at, drop-drop}
 use borrow.Author.Tests.{eq-eqb, ne-eqb}
-use Rattle.plane.specs.Size.{within}
+use Rattle.limits.specs.Size.{within}
 use Rattle.deck.specs.declared.answer.Written.the-variants.{Done, Size, Sheet, Deck, Label}
 use Rattle.deck.specs.Card.{columns, long, every, visible, card}
 use Rattle.deck.specs.Outcome.{writeOutcome}

@@ -10,7 +10,7 @@ use mathlib.Core.List.{List, [], _++_}
 use Prim.Native.Nat.{ℕ, zero, suc, _+_, _*_}
 use lib.Dec.{eqb}
 use lib.ListN.{length, take, drop}
-use Rattle.plane.specs.Size.{within}
+use Rattle.limits.specs.Size.{within}
 use Rattle.deck.specs.declared.answer.Written.{Written}
 use Rattle.deck.specs.declared.answer.Written.the-variants.{Done, Size, Sheet, Deck, Label}
 use Rattle.deck.specs.Card.{long, every, visible, card}

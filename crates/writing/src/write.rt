@@ -2,13 +2,12 @@ use columns::bytes;
 use columns::layout;
 use deck::answer::Written;
 use deck::card::LONG;
-use plane::size;
 ghost use mathlib.Core.Path.{_≡_};
 ghost use mathlib.Core.Bool.{true};
 ghost use mathlib.Core.List.{_++_};
 ghost use Prim.Native.Nat.{_*_, _≤_};
 ghost use lib.ListN.{length, take, drop};
-ghost use Rattle.plane.specs.Size.{within};
+ghost use Rattle.limits.specs.Size.{within};
 ghost use Rattle.deck.specs.Card.{every, visible, long, card};
 ghost use Rattle.deck.specs.Outcome.{writeOutcome};
 ghost use Rattle.columns.specs.Layout.{heading, rowCards};
@@ -53,7 +52,7 @@ fn put_rows(width: u16, height: u16, sheet: &[u16], deck: &mut [u8])
 pub fn write(width: u16, height: u16, sheet: &[u16], deck: &mut [u8]) -> Written
     ensures { λ r. ⌜ writeOutcome r (now (deck .exit)) ≡ writing width height (now (sheet .entry)) (now (deck .entry)) ⌝ }
 {
-    if !size::within(width, height) {
+    if !limits::within(width, height) {
         return Written::Size;
     }
     if sheet.len() != (width * height) as usize {

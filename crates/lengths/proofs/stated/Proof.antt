@@ -1,6 +1,6 @@
 use native.Mathlib.Omega.{arith}
 use Rattle.plane.specs.Dart.{points, slots}
-use Rattle.plane.proofs.Limit.{within-limits}
+use Rattle.limits.proofs.Limit.{within-limits}
 use Rattle.plane.proofs.Fit.{points-fit, cells-fit}
 use Rattle.lengths.proofs.Tested.{lengths-slots, lengths-names, lengths-work}
 use borrow.Author.Needs.{needs}

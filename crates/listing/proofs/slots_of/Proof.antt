@@ -1,7 +1,7 @@
 use mathlib.Core.Path.{refl}
 use native.Mathlib.Omega.{arith}
 use Rattle.plane.specs.Dart.{points, slots}
-use Rattle.plane.proofs.Limit.{within-limits}
+use Rattle.limits.proofs.Limit.{within-limits}
 use Rattle.plane.proofs.Fit.{points-fit}
 use Rattle.listing.proofs.slots_of.Statement.{statement}
 use Rattle.listing.proofs.slots_of.Tie as tie

@@ -4,7 +4,7 @@ use Prim.Native.Nat.{_-_}
 use native.Mathlib.Omega.{arith}
 use borrow.Author.Needs.{needs}
 use Rattle.plane.specs.Dart.{mark}
-use Rattle.plane.proofs.Limit.{within-limits}
+use Rattle.limits.proofs.Limit.{within-limits}
 use Rattle.plane.proofs.Fit.{cells-fit}
 use Rattle.agreement.proofs.Told.{Recovering, recovering-none, recovering-all, recovering-fit, recovering-on, recovering-down}
 use Rattle.agreement.proofs.labels.recover.Statement.{statement}

@@ -5,7 +5,7 @@ use Prim.Native.Nat.{_-_}
 use Rattle.paper.specs.Level.{marked}
 use Rattle.paper.specs.Joining.{at}
 use Rattle.plane.proofs.Fit.{points-fit}
-use Rattle.plane.proofs.Limit.{within-limits}
+use Rattle.limits.proofs.Limit.{within-limits}
 use Rattle.plane.specs.Dart.{mark, points, slots}
 use borrow.Author.Needs.{needs}
 use native.Mathlib.Omega.{arith}

@@ -3,7 +3,7 @@ use Rattle.enclosure.proofs.Corner.{Parented, parented-none, parented-o
 use Rattle.plane.proofs.Fit.{cells-fit, points-fit}
 use Rattle.paper.specs.Joining.{at, on}
 use Rattle.paper.specs.Enclosure.{parent}
-use Rattle.plane.proofs.Limit.{within-limits}
+use Rattle.limits.proofs.Limit.{within-limits}
 use Rattle.plane.specs.Dart.{mark, dart}
 use native.Mathlib.Omega.{arith}
 use Prim.Native.Nat.{_-_, _<_}

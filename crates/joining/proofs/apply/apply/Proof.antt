@@ -4,7 +4,7 @@ use native.Mathlib.Omega.{arith}
 use lib.ListN.{length}
 use lib.Seq.{length-take-le, length-front}
 use Rattle.plane.specs.Dart.{points, slots}
-use Rattle.plane.proofs.Limit.{within-limits}
+use Rattle.limits.proofs.Limit.{within-limits}
 use Rattle.plane.proofs.Fit.{points-fit}
 use Rattle.paper.proofs.Marks.{within-fits}
 use Rattle.table.proofs.Cleared.{cleared-same}

@@ -3,7 +3,7 @@ use lib.ListN.{replicate}
 use Rattle.keeping.proofs.Flags.{flags, settled-keeps}
 use Rattle.plane.specs.Dart.{points}
 use Rattle.plane.proofs.Fit.{points-fit}
-use Rattle.plane.proofs.Limit.{within-limits}
+use Rattle.limits.proofs.Limit.{within-limits}
 use mathlib.Core.Path.{refl, sym, ap, _∙_}
 use native.Mathlib.Omega.{arith}
 use borrow.Author.Needs.{needs}

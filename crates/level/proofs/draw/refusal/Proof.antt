@@ -3,7 +3,7 @@ use native.Mathlib.Omega.{arith}
 use borrow.Author.Tests.{not-true, not-false}
 use Rattle.plane.specs.Dart.{points, slots}
 use Rattle.plane.proofs.Fit.{points-fit, cells-fit}
-use Rattle.plane.proofs.Limit.{within-limits}
+use Rattle.limits.proofs.Limit.{within-limits}
 use Rattle.level.specs.Draw.{answer}
 use Rattle.level.proofs.Refused.{size-refused, level-refused, sheet-refused, tables-refused, none-refused}
 use borrow.Author.Needs.{needs}

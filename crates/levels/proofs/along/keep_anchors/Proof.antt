@@ -6,7 +6,7 @@ use Rattle.table.proofs.Front.{front-back, back-in, back-long}
 use mathlib.Core.Path.{refl, sym, ap, _∙_}
 use Rattle.plane.specs.Dart.{points, slots}
 use Rattle.plane.proofs.Fit.{points-fit}
-use Rattle.plane.proofs.Limit.{within-limits}
+use Rattle.limits.proofs.Limit.{within-limits}
 use native.Mathlib.Omega.{arith}
 use borrow.Author.Needs.{needs}
 use Rattle.levels.proofs.along.keep_anchors.Statement.{statement}

@@ -7,7 +7,7 @@ use Rattle.region.proofs.Room.{points-part, surround-part}
 use mathlib.Core.Path.{sym, _∙_}
 use Rattle.plane.specs.Dart.{points}
 use Rattle.plane.proofs.Fit.{points-fit}
-use Rattle.plane.proofs.Limit.{within-limits}
+use Rattle.limits.proofs.Limit.{within-limits}
 use native.Mathlib.Omega.{arith}
 use borrow.Author.Needs.{needs}
 use Rattle.levels.proofs.fill.fill.Statement.{statement}

@@ -3,7 +3,7 @@ use Prim.Native.Nat.{_-_}
 use Rattle.masks.specs.Mask.{around, masked}
 use Rattle.plane.specs.Point.{present}
 use Rattle.plane.proofs.Fit.{points-fit}
-use Rattle.plane.proofs.Limit.{within-limits}
+use Rattle.limits.proofs.Limit.{within-limits}
 use Rattle.plane.specs.Dart.{points}
 use native.Mathlib.Omega.{arith}
 use borrow.Author.Needs.{needs}

@@ -1,4 +1,4 @@
-use Rattle.plane.proofs.Limit.{within-limits}
+use Rattle.limits.proofs.Limit.{within-limits}
 use Rattle.plane.proofs.Fit.{points-fit}
 use Rattle.masks.proofs.Ruling.{Ruling, ruling-none, ruling-column, ruling-row, ruling-on, ruling-down, ruling-all}
 use mathlib.Core.Path.{sym, _∙_}

@@ -5,7 +5,7 @@ use native.Mathlib.Omega.{arith}
 use borrow.Author.Count.{below-none, below-more}
 use Rattle.laws.proofs.Table.{none-some, found-some}
 use Rattle.plane.specs.Dart.{mark, points, slots, reversal}
-use Rattle.plane.proofs.Limit.{within-limits}
+use Rattle.limits.proofs.Limit.{within-limits}
 use Rattle.paper.specs.Joining.{shared}
 use Rattle.plane.proofs.Fit.{points-fit}
 use Rattle.pairs.proofs.adjoin.adjoin.Statement.{statement}

@@ -1,6 +1,6 @@
 use native.Mathlib.Omega.{arith}
 use borrow.Author.Needs.{needs}
-use Rattle.plane.specs.Size.{widest}
+use Rattle.limits.specs.Size.{widest}
 use Rattle.plane.specs.Dart.{mark, dart}
 use Rattle.pieces.proofs.Neighbour.{toward-back}
 use Rattle.forest.proofs.Reach.{tied-by}

@@ -3,7 +3,7 @@ use mathlib.Core.Bool.{cond}
 use Prim.Native.Nat.{_+_, _-_}
 use native.Mathlib.Omega.{arith}
 use Rattle.plane.specs.Dart.{points, dart}
-use Rattle.plane.proofs.Limit.{within-limits}
+use Rattle.limits.proofs.Limit.{within-limits}
 use Rattle.paper.specs.Level.{tops}
 use Rattle.paper.specs.Joining.{on}
 use Rattle.plane.proofs.Fit.{points-fit, width-fit, darts-fit}

@@ -2,7 +2,7 @@ use mathlib.Core.Path.{_≡_, sym, _∙_}
 use Prim.Native.Nat.{_-_, _%_}
 use native.Mathlib.Nat.{zero-mod, mod-le}
 use native.Mathlib.Omega.{arith}
-use Rattle.plane.proofs.Limit.{within-limits}
+use Rattle.limits.proofs.Limit.{within-limits}
 use Rattle.paper.specs.Name.{west, north}
 use Rattle.laws.proofs.Column.{column-on, column-back}
 use Rattle.plane.proofs.Fit.{cells-fit}

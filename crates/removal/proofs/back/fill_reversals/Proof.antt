@@ -1,7 +1,7 @@
 use Prim.Native.Nat.{_-_}
 use native.Mathlib.Omega.{arith}
 use Rattle.plane.specs.Dart.{mark, points, slots, dart, reversal}
-use Rattle.plane.proofs.Limit.{within-limits}
+use Rattle.limits.proofs.Limit.{within-limits}
 use Rattle.plane.proofs.Fit.{points-fit}
 use Rattle.table.proofs.Half.{Half, half-none, half-all}
 use Rattle.removal.proofs.Reversals.{reversals-more}

@@ -6,7 +6,7 @@ use lib.Dec.{eqb}
 use borrow.Author.Count.{below-none, below-more}
 use Rattle.plane.specs.Point.{degree}
 use Rattle.plane.specs.Dart.{points}
-use Rattle.plane.proofs.Limit.{within-limits}
+use Rattle.limits.proofs.Limit.{within-limits}
 use Rattle.paper.specs.Joining.{on}
 use Rattle.paper.specs.Level.{mask}
 use Rattle.plane.proofs.Fit.{points-fit, darts-fit}

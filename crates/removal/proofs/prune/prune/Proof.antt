@@ -1,7 +1,7 @@
 use mathlib.Core.Path.{_∙_}
 use native.Mathlib.Omega.{arith}
 use Rattle.plane.specs.Dart.{points, slots}
-use Rattle.plane.proofs.Limit.{within-limits}
+use Rattle.limits.proofs.Limit.{within-limits}
 use Rattle.plane.proofs.Fit.{points-fit}
 use Rattle.removal.proofs.Pruning.{Pruning, pruning-start, pruning-on, pruning-end}
 use Rattle.removal.proofs.prune.prune.Statement.{statement}

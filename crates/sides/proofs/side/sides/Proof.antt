@@ -4,7 +4,7 @@ use Rattle.paper.specs.Level.{marked}
 use Rattle.lines.specs.Line.{entryOf}
 use Rattle.sides.specs.Side.{beheld, sides}
 use Rattle.plane.proofs.Fit.{points-fit}
-use Rattle.plane.proofs.Limit.{within-limits}
+use Rattle.limits.proofs.Limit.{within-limits}
 use Rattle.plane.specs.Dart.{points, slots, dart}
 use Rattle.lines.proofs.Pointing.{filled-point}
 use native.Mathlib.Omega.{arith}

@@ -1,7 +1,7 @@
 use Prim.Native.Nat.{_-_}
 use native.Mathlib.Omega.{arith}
 use Rattle.plane.specs.Dart.{points}
-use Rattle.plane.proofs.Limit.{within-limits}
+use Rattle.limits.proofs.Limit.{within-limits}
 use Rattle.paper.specs.Joining.{smooth, smooths, smoothed}
 use Rattle.plane.proofs.Fit.{points-fit, darts-fit}
 use Rattle.removal.specs.Links.{links}

@@ -5,7 +5,7 @@ use lib.Dec.{lit<}
 use lib.ListN.{length}
 use borrow.Author.Needs.{needs}
 use borrow.Author.Tests.{not-true, not-false}
-use Rattle.plane.specs.Size.{within}
+use Rattle.limits.specs.Size.{within}
 use Rattle.plane.proofs.Fit.{cells-fit}
 use Rattle.deck.specs.Card.{columns, places, long, every, visible}
 use Rattle.writing.specs.Writing.{deckLength}

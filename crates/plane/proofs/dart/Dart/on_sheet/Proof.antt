@@ -1,7 +1,7 @@
 use native.Mathlib.Omega.{arith}
 use borrow.Author.Tests.{not-true, not-false, lt-leb, le-leb}
 use Rattle.plane.specs.Dart.{line}
-use Rattle.plane.proofs.Limit.{within-limits}
+use Rattle.limits.proofs.Limit.{within-limits}
 use borrow.Author.Needs.{needs}
 use Rattle.plane.proofs.dart.Dart.on_sheet.Statement.{statement}
 use Rattle.plane.proofs.dart.Dart.on_sheet.Tie as tie

@@ -1,7 +1,7 @@
 use borrow.Author.Tests.{le-leb, lt-leb}
-use Rattle.plane.specs.Size.{widest, within}
-use Rattle.plane.proofs.size.within.Statement.{statement}
-use Rattle.plane.proofs.size.within.Tie as tie
+use Rattle.limits.specs.Size.{widest, within}
+use Rattle.limits.proofs.within.Statement.{statement}
+use Rattle.limits.proofs.within.Tie as tie
 
 returns : tie.Need-returns
 unfolding widest within

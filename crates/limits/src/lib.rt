@@ -1,5 +1,6 @@
+// The limits of a sheet: how wide and how high it may be.
 ghost use mathlib.Core.Path.{_≡_};
-ghost use Rattle.plane.specs.Size.{within};
+ghost use Rattle.limits.specs.Size.{within};
 
 // The greatest width and the greatest height.
 pub const WIDEST: u16 = 72;

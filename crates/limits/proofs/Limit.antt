@@ -4,7 +4,7 @@ use mathlib.Core.Bool.{true, _&&_}
 use Prim.Native.Nat.{ℕ, _≤_}
 use lib.Dec.{leb}
 use borrow.Author.Tests.{leb-true}
-use Rattle.plane.specs.Size.{widest, within}
+use Rattle.limits.specs.Size.{widest, within}
 use Rattle.laws.proofs.Test.{and-left, and-right}
 
 pub record Within (w h : ℕ) : Type 0 where
