@@ -34,13 +34,6 @@ use Rattle.parts.proofs.Whole.{line-next, line-side, curve-next, curve-other, p
 pub names-part : (w h : ℕ) → w * h + 1 ≤ slots w h
 names-part w h = omega (arith, cells-slots w h)
 
--- a pair of comparisons
-pub both-no : (a b s : Bool) → s ≡ a → not s ≡ true → false ≡ (a && b)
-both-no a b s e n = rw (← e, not-true s n)
-
-pub both-yes : (a b s r : Bool) → s ≡ a → not s ≡ false → r ≡ b → r ≡ (a && b)
-both-yes a b s r e n f = rw (← e, not-false s n) f
-
 -- Level 1, drawn again.
 module _ (w h : ℕ) (x s : List ℕ) where
   pub lines-judged : (t e r m y u : List ℕ) (b : Bool) → t ≡ e → e ≡ recovered w h s

@@ -3,11 +3,10 @@ use parts::draw;
 use region::names;
 use table::entry;
 ghost use mathlib.Core.Path.{_≡_};
-ghost use mathlib.Core.Bool.{true, _&&_};
+ghost use mathlib.Core.Bool.{true};
 ghost use lib.ListN.{length, take};
 ghost use Rattle.plane.specs.Dart.{points, slots};
 ghost use Rattle.limits.specs.Size.{within};
-ghost use Rattle.paper.specs.Drawing.{alike};
 ghost use Rattle.lengths.specs.Given.{tables};
 ghost use Rattle.parts.specs.Parts.{masksOf, linesAgree, curvesAgree};
 
@@ -36,19 +35,7 @@ pub fn lines_agree(
     labels::recover(width, height, side1, &mut c[..cells]);
     names::name_cells(width, height, &c[..cells], b, a);
     draw::draw_lines(width, height, a, b, c, d);
-    both_same(next1, c, side1, d)
-}
-
-// Whether two pairs of tables have the same entries.
-fn both_same(s: &[u16], t: &[u16], u: &[u16], v: &[u16]) -> bool
-    ensures { λ r. ⌜
-        r ≡ (alike (now (s .entry)) (now (t .entry)) && alike (now (u .entry)) (now (v .entry)))
-        ⌝ }
-{
-    if !entry::same(s, t) {
-        return false;
-    }
-    entry::same(u, v)
+    entry::both_same(next1, c, side1, d)
 }
 
 // Whether level 3 and the parents are those of these next and sides of level 1, with the masks of its points given.
@@ -81,7 +68,7 @@ pub fn curves_agree(
     draw::draw_curves(width, height, next1, c, d, b);
     let names = (width * height + 1) as usize;
     draw::draw_parents(width, height, side1, a, &mut c[..names]);
-    if !both_same(next3, d, other3, b) {
+    if !entry::both_same(next3, d, other3, b) {
         return false;
     }
     entry::same(parent, &c[..names])

@@ -1,7 +1,7 @@
 -- Two tables compared place by place.
 --   Agreed i t u    == below place i the tables t and u have the same entries
 use mathlib.Core.Path.{_≡_, refl, sym, ap}
-use mathlib.Core.Bool.{Bool, true, false}
+use mathlib.Core.Bool.{Bool, true, false, _&&_}
 use mathlib.Core.List.{List}
 use mathlib.Core.Logic.{_≢_}
 use Prim.Native.Nat.{ℕ, _+_, _≤_, _<_}
@@ -46,3 +46,11 @@ module _ (t u : List ℕ) where
     -- all places
     pub same-all : length u ≡ length t → length t ≤ i → true ≡ alike t u
     same-all l b = sym (alike-iff t u .1 (ext-getD 0 t u (sym l) (λ k d. g .entry k (omega arith))))
+
+-- two pairs of tables, each compared
+module _ (a b s : Bool) (e : s ≡ a) where
+  pub both-yes : s ≡ true → (r : Bool) → r ≡ b → r ≡ (a && b)
+  both-yes y r f = rw (← e, y) f
+
+  pub both-no : s ≡ false → false ≡ (a && b)
+  both-no n = rw (← e, n)

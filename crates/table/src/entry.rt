@@ -1,6 +1,6 @@
 use plane::dart;
 ghost use mathlib.Core.Path.{_≡_};
-ghost use mathlib.Core.Bool.{cond};
+ghost use mathlib.Core.Bool.{cond, _&&_};
 ghost use mathlib.Core.List.{[], _∷_};
 ghost use lib.Dec.{eqb};
 ghost use lib.ListN.{length, set, replicate};
@@ -80,6 +80,18 @@ pub fn same(left: &[u16], right: &[u16]) -> bool
         i += 1;
     }
     true
+}
+
+// Whether two pairs of tables have the same entries.
+pub fn both_same(s: &[u16], t: &[u16], u: &[u16], v: &[u16]) -> bool
+    ensures { λ r. ⌜
+        r ≡ (alike (now (s .entry)) (now (t .entry)) && alike (now (u .entry)) (now (v .entry)))
+        ⌝ }
+{
+    if same(s, t) {
+        return same(u, v);
+    }
+    false
 }
 
 // An entry where a link is not the mark, else the mark.
