@@ -33,6 +33,6 @@ module _ (w h : ℕ) (t : Tables) (ws vs : List (List ℕ)) (v : Verdict) (d : v
   accepted-fits = omega (arith, accepted-long, cells-fit w h (accepted-within w h t ws vs done))
 
   -- all names may be counted, into tables as long
-  pub accepted-all : (m n : ℕ) → m ≡ w * h + 1 → n ≡ w * h + 1
+  pub accepted-all : (m n : ℕ) → (m ≡ w * h + 1) × (n ≡ w * h + 1)
       → Falls (t .parent) × (length (t .parent) ≤ mark) × (m ≡ length (t .parent)) × (n ≡ length (t .parent))
-  accepted-all m n p q = (accepted-falls, accepted-fits, p ∙ sym accepted-long, q ∙ sym accepted-long)
+  accepted-all m n p = (accepted-falls, accepted-fits, p .0 ∙ sym accepted-long, p .1 ∙ sym accepted-long)

@@ -3,25 +3,24 @@
 use mathlib.Core.Path.{_≡_, refl, _∙_}
 use mathlib.Core.Bool.{Bool, true, false, cond, not, _&&_}
 use mathlib.Core.List.{List, [], _∷_, _++_}
-use mathlib.Core.Logic.{_≢_}
 use Prim.Native.Nat.{ℕ, suc, _+_, _*_}
 use native.Mathlib.Omega.{arith}
 use lib.ListN.{length}
-use borrow.Author.Tests.{eq-eqb, ne-eqb}
 use types.Run.{OneOf}
 use denote.Enum.Declared.{tagOf}
 use Rattle.limits.specs.Size.{within}
 use Rattle.paper.specs.Enclosure.{depth, holes}
-use Rattle.paper.specs.Drawing.{Tables}
+use Rattle.paper.specs.Drawing.{Tables, judged}
 use Rattle.paper.specs.Refusal.{outcome, sized, stated, five, used, countRefusal}
 use Rattle.tree.specs.Tree.{known}
 use Rattle.census.specs.Census.{counts}
-use Rattle.lengths.proofs.Tested.{and-end}
+use Rattle.lengths.specs.Lengths.{named}
+use Rattle.lengths.proofs.Tested.{and-end, all-named, sized-named}
 use Rattle.verdict.specs.declared.answer.Verdict.{Verdict}
 use Rattle.verdict.specs.Answer.{answer, answered}
-use Rattle.verdict.specs.Check.{checkRefusal, checked}
+use Rattle.verdict.specs.Check.{refusal, checkRefusal, checked}
 use Rattle.verdict.proofs.answer.Verdict.{the-type}
-use Rattle.verdict.proofs.Refusing.{again, refused-stops, tag-number, number, work, accepted-on, accepted-work}
+use Rattle.verdict.proofs.Refusing.{again, none-stops, refused-stops, tag-number, number, work, accepted-on, accepted-work}
 use Rattle.counting.specs.declared.answer.Count.{Count}
 use Rattle.counting.specs.Answer.{values, counted, refused}
 use Rattle.counts.specs.Tally.{tallyRefusal, tallied}
@@ -67,45 +66,51 @@ and-false : (b : Bool) → (b && false) ≡ false
 and-false true = refl
 and-false false = refl
 
--- Counting all names at once, into the tables ds and hs.
-module _ (w h : ℕ) (t : Tables) (ds hs : List ℕ) (ws : List (List ℕ)) where
+-- Two lengths of which it is answered that nothing is refused.
+module _ (w h m n : ℕ) (f : Verdict) (e : answer f ≡ refusal w h (named w h m n)) (g : f ≡ Verdict.Done) where
+  fit : named w h m n ≡ true
+  fit = none-stops w h (named w h m n) (rw g at e) .1
+
+  pub tally-long : (m ≡ w * h + 1) × (n ≡ w * h + 1)
+  tally-long = all-named w h m n fit
+
+-- Counting all names at once, into the tables ds and hs, of whose lengths this is answered.
+module _ (w h : ℕ) (t : Tables) (ds hs : List ℕ) (ws : List (List ℕ)) (f : Verdict)
+    (e : answer f ≡ refusal w h (named w h (length ds) (length hs))) where
   abbrev kept : List (List ℕ)
   kept = five t ++ ds ∷ hs ∷ []
 
-  pub tally-size : within w h ≡ false → answered Verdict.Size kept ws ≡ tallied w h t ds hs ws
-  unfolding answered tallied tallyRefusal outcome
-  tally-size e = rw e
+  pub tally-stopped : OneOf (1 ∷ 2 ∷ 3 ∷ []) (tagOf the-type f) → answered f kept ws ≡ tallied w h t ds hs ws
+  unfolding answered tallied tallyRefusal refusal outcome named sized
+  tally-stopped q = stop (within w h) (named w h (length ds) (length hs)) (stated w h t ws) (judged w h t) f q e
+    where
+      stop : (a b c d : Bool) (r : Verdict) → OneOf (1 ∷ 2 ∷ 3 ∷ []) (tagOf the-type r)
+          → answer r ≡ cond (not a) 1 (cond (not b) 4 0)
+          → answered r kept ws
+          ≡ outcome (cond (not a) 1 (cond (not (c && b)) 4 (cond (not d) 5 0))) [] kept
+          (five t ++ counts depth (t .parent) ∷ counts holes (t .parent) ∷ [])
+          ws
+      stop false b c d r q e = rw e
+      stop true false c d r q e = rw (e, and-false c)
+      stop true true c d r q e = let (j, p) = tag-number r q in absurd (omega arith)
 
-  module _ (e : within w h ≡ true) where
-    unsized : sized (w * h + 1) (ds ∷ hs ∷ []) ≡ false → answered Verdict.Tables kept ws ≡ tallied w h t ds hs ws
-    unfolding answered tallied tallyRefusal outcome
-    unsized f = rw (e, f, and-false (stated w h t ws))
+  -- nothing is refused of them
+  module _ (g : f ≡ Verdict.Done) where
+    same-tests : tallyRefusal w h t ds hs ws ≡ checkRefusal w h t ws
+    unfolding tallyRefusal checkRefusal
+    same-tests = rw (← sized-named w h ds hs, fit w h (length ds) (length hs) f e g, ← and-end (stated w h t ws))
 
-    pub tally-first : length ds ≢ w * h + 1 → answered Verdict.Tables kept ws ≡ tallied w h t ds hs ws
-    unfolding sized
-    tally-first n = unsized (rw (ne-eqb (length ds) (w * h + 1) n))
+    module _ (vs : List (List ℕ)) where
+      pub tally-refused : (v : Verdict) → OneOf (1 ∷ 2 ∷ 3 ∷ []) (tagOf the-type v)
+          → answered v (five t) vs ≡ checked w h t ws → answered v kept vs ≡ tallied w h t ds hs ws
+      unfolding answered tallied
+      tally-refused v p e =
+          rw same-tests
+          (again (checkRefusal w h t ws) (answer v) kept _ vs ws (number w h t ws vs v e) (tag-number v p) (work w h t ws vs v e))
 
-    module _ (l : length ds ≡ w * h + 1) where
-      pub tally-second : length hs ≢ w * h + 1 → answered Verdict.Tables kept ws ≡ tallied w h t ds hs ws
-      unfolding sized
-      tally-second n = unsized (rw (eq-eqb (length ds) (w * h + 1) l, ne-eqb (length hs) (w * h + 1) n))
-
-      module _ (m : length hs ≡ w * h + 1) (vs : List (List ℕ)) where
-        same-tests : tallyRefusal w h t ds hs ws ≡ checkRefusal w h t ws
-        unfolding tallyRefusal checkRefusal sized
-        same-tests =
-            rw (eq-eqb (length ds) (w * h + 1) l, eq-eqb (length hs) (w * h + 1) m, ← and-end (stated w h t ws))
-
-        pub tally-refused : (v : Verdict) → OneOf (1 ∷ 2 ∷ 3 ∷ []) (tagOf the-type v)
-            → answered v (five t) vs ≡ checked w h t ws → answered v kept vs ≡ tallied w h t ds hs ws
-        unfolding answered tallied
-        tally-refused v p e =
-            rw same-tests
-            (again (checkRefusal w h t ws) (answer v) kept _ vs ws (number w h t ws vs v e) (tag-number v p) (work w h t ws vs v e))
-
-        pub tally-done : answered Verdict.Done (five t) vs ≡ checked w h t ws → (ds′ hs′ : List ℕ)
-            → ds′ ≡ counts depth (t .parent) → hs′ ≡ counts holes (t .parent)
-            → answered Verdict.Done (five t ++ ds′ ∷ hs′ ∷ []) vs ≡ tallied w h t ds hs ws
-        unfolding answered tallied outcome
-        tally-done e ds′ hs′ p q =
-            rw (same-tests, ← number w h t ws vs Verdict.Done e, p, q, accepted-work w h t ws vs e)
+      pub tally-done : answered Verdict.Done (five t) vs ≡ checked w h t ws → (ds′ hs′ : List ℕ)
+          → ds′ ≡ counts depth (t .parent) → hs′ ≡ counts holes (t .parent)
+          → answered Verdict.Done (five t ++ ds′ ∷ hs′ ∷ []) vs ≡ tallied w h t ds hs ws
+      unfolding answered tallied outcome
+      tally-done e ds′ hs′ p q =
+          rw (same-tests, ← number w h t ws vs Verdict.Done e, p, q, accepted-work w h t ws vs e)

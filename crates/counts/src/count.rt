@@ -5,8 +5,10 @@ ghost use mathlib.Core.Path.{_≡_};
 ghost use mathlib.Core.List.{[], _∷_, _++_};
 ghost use Rattle.paper.specs.Refusal.{five, deepened, holed};
 ghost use Rattle.lengths.specs.Given.{tables, works};
+ghost use Rattle.lengths.specs.Lengths.{named};
 ghost use Rattle.counts.specs.Tally.{tallied};
-ghost use Rattle.verdict.specs.Answer.{answered};
+ghost use Rattle.verdict.specs.Answer.{answer, answered};
+ghost use Rattle.verdict.specs.Check.{refusal};
 ghost use Rattle.counting.specs.Answer.{counted};
 
 // The depth of a region, or of the outside for the name 0: refusals 1, 4, 5 and 8. The tables stay as they are; the work
@@ -95,6 +97,19 @@ pub fn holes(
     answer::holes_after(verdict, parent, name)
 }
 
+// What counting every name answers to a size and the lengths of its two tables.
+fn refusal(width: u16, height: u16, depths: usize, tally: usize) -> Verdict
+    ensures { λ r. ⌜ answer r ≡ refusal width height (named width height depths tally) ⌝ }
+{
+    if !limits::within(width, height) {
+        return Verdict::Size;
+    }
+    if !lengths::named(width, height, depths, tally) {
+        return Verdict::Tables;
+    }
+    Verdict::Done
+}
+
 // Depth and hole count of every name at once, of the outside and of each name in use; the mark for any other name. The
 // two tables are by name, of the length of the parents. Refusals 1, 4 and 5, which leave them; the work tables are left
 // at 1 and 4, else cleared.
@@ -126,16 +141,10 @@ pub fn counts(
         (works (now (a .entry)) (now (b .entry)) (now (c .entry)) (now (d .entry)))
         ⌝ }
 {
-    if !limits::within(width, height) {
-        return Verdict::Size;
-    }
-    let names = (width * height + 1) as usize;
-    if depths.len() != names {
-        return Verdict::Tables;
-    }
-    if tally.len() != names {
-        return Verdict::Tables;
-    }
+    let first = refusal(width, height, depths.len(), tally.len());
+    let Verdict::Done = first else {
+        return first;
+    };
     let verdict = checking::check(
         width,
         height,

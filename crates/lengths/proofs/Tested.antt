@@ -2,6 +2,7 @@
 --   four n a b c d  == the four lengths are all n
 --   seven n x o s a b c d == the lengths of three tables and of four work tables are all n
 --   lengths w h ..  == the lengths of the five tables and of four work tables are the stated ones
+--   named w h a b  == the lengths of two tables by name are the stated one
 use mathlib.Core.Path.{_≡_, refl, _∙_}
 use mathlib.Core.Bool.{Bool, true, false, not, _&&_}
 use mathlib.Core.List.{List, [], _∷_}
@@ -14,7 +15,7 @@ use Rattle.laws.proofs.Test.{and-left, and-right}
 use Rattle.plane.specs.Dart.{slots}
 use Rattle.paper.specs.Drawing.{Tables}
 use Rattle.paper.specs.Refusal.{sized, stated}
-use Rattle.lengths.specs.Lengths.{four, seven, lengths}
+use Rattle.lengths.specs.Lengths.{four, seven, lengths, named}
 use Rattle.lengths.specs.Given.{tables, works}
 
 pub and-end : (b : Bool) → b ≡ (b && true)
@@ -139,3 +140,25 @@ stated-parent w h t ws e =
     (and-left (eqb (length (t .parent)) (w * h + 1)) true
     (and-right (sized (slots w h) (t .next1 ∷ t .side1 ∷ t .next3 ∷ t .other3 ∷ [])) (sized (w * h + 1) (t .parent ∷ []))
     (and-left _ (sized (slots w h) ws) e)))
+
+-- Two lengths of tables by name, one after the other.
+module _ (w h a b : ℕ) where
+  pub named-first : a ≢ w * h + 1 → false ≡ named w h a b
+  unfolding named
+  named-first p = rw (ne-eqb a (w * h + 1) p)
+
+  pub named-last : a ≡ w * h + 1 → eqb b (w * h + 1) ≡ named w h a b
+  unfolding named
+  named-last p = rw (eq-eqb a (w * h + 1) p) (and-end (eqb b (w * h + 1)))
+
+  pub all-named : named w h a b ≡ true → (a ≡ w * h + 1) × (b ≡ w * h + 1)
+  unfolding named
+  all-named e =
+      let k : Bool = eqb a (w * h + 1) in
+      let m : Bool = eqb b (w * h + 1) in
+      (eqb-true a (w * h + 1) (and-left k (m && true) e), eqb-true b (w * h + 1) (and-left m true (and-right k (m && true) e)))
+
+-- the lengths of two lent tables
+pub sized-named : (w h : ℕ) (a b : List ℕ) → named w h (length a) (length b) ≡ sized (w * h + 1) (a ∷ b ∷ [])
+unfolding named sized
+sized-named w h a b = refl

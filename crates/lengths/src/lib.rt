@@ -3,7 +3,7 @@ ghost use mathlib.Core.Path.{_≡_};
 ghost use mathlib.Core.Bool.{true};
 ghost use Prim.Native.Nat.{_+_, _*_};
 ghost use Rattle.limits.specs.Size.{within};
-ghost use Rattle.lengths.specs.Lengths.{four, lengths, seven};
+ghost use Rattle.lengths.specs.Lengths.{four, lengths, named, seven};
 
 // Whether four lengths are all n.
 pub fn four(n: usize, a: usize, b: usize, c: usize, d: usize) -> bool
@@ -72,4 +72,16 @@ pub fn stated(
         return false;
     }
     four(slots, a, b, c, d)
+}
+
+// Whether the lengths of two tables by name are the stated one: an entry for each name, that of the outside too.
+pub fn named(width: u16, height: u16, a: usize, b: usize) -> bool
+    requires { ⌜ within width height ≡ true ⌝ }
+    ensures { λ r. ⌜ r ≡ named width height a b ⌝ }
+{
+    let entries = (width * height + 1) as usize;
+    if a != entries {
+        return false;
+    }
+    b == entries
 }
