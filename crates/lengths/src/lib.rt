@@ -21,7 +21,7 @@ pub fn four(n: usize, a: usize, b: usize, c: usize, d: usize) -> bool
     d == n
 }
 
-// Whether the lengths of the three tables and of four work tables are all n.
+// Whether the lengths of the three tables of a level and of four work tables are all n.
 pub fn seven(
     n: usize,
     next: usize,

@@ -1,27 +1,10 @@
--- What the level drawing answers (the paper, "Refusal numbers and their order").
---   answer r        == the number of the refusal that the answer r tells, 0 for done
---   refusal w h l n k == the number of the first refusal, 0 for none: of level l, a sheet of n cells, and lengths that are
---                      the stated ones as k says
+-- What the level drawing leaves (the paper, "Refusal numbers and their order").
 --   told r ts ws    == the outcome that the answer r tells: no values, and what the tables and the work tables hold
-use mathlib.Core.Bool.{Bool, cond, not}
 use mathlib.Core.List.{List, []}
-use Prim.Native.Nat.{ℕ, _*_}
-use lib.Dec.{eqb, ltb}
-use Rattle.limits.specs.Size.{within}
+use Prim.Native.Nat.{ℕ}
 use Rattle.paper.specs.Refusal.{Outcome}
-use Rattle.level.specs.declared.draw.Drawn.{Drawn}
-use Rattle.level.specs.declared.draw.Drawn.the-variants.{Done, Size, Level, Sheet, Tables}
-
-unfoldable pub answer : Drawn → ℕ
-answer Done = 0
-answer Size = 1
-answer Level = 2
-answer Sheet = 3
-answer Tables = 4
-
-unfoldable pub refusal : ℕ → ℕ → ℕ → ℕ → Bool → ℕ
-refusal w h l n k =
-    cond (not (within w h)) 1 (cond (ltb 3 l) 2 (cond (not (eqb n (w * h))) 3 (cond (not k) 4 0)))
+use Rattle.level_answer.specs.declared.Drawn.{Drawn}
+use Rattle.level_answer.specs.Answer.{answer}
 
 unfoldable pub told : Drawn → List (List ℕ) → List (List ℕ) → Outcome
 told r ts ws = record { number = answer r; values = []; tables = ts; work = ws }

@@ -1,4 +1,5 @@
-use Rattle.level.proofs.Refused.{all-fit, refused, done}
+use Rattle.level_answer.proofs.Tests.{all-fit}
+use Rattle.level.proofs.Refused.{refused, done}
 use Rattle.level.proofs.draw.draw.Statement.{statement}
 use Rattle.level.proofs.draw.draw.Tie as tie
 

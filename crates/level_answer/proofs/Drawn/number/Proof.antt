@@ -1,7 +1,7 @@
-use Rattle.level.specs.Draw.{answer}
+use Rattle.level_answer.specs.Answer.{answer}
 use borrow.Author.Needs.{needs}
-use Rattle.level.proofs.draw.Drawn.number.Statement.{statement}
-use Rattle.level.proofs.draw.Drawn.number.Tie as tie
+use Rattle.level_answer.proofs.Drawn.number.Statement.{statement}
+use Rattle.level_answer.proofs.Drawn.number.Tie as tie
 
 enum-told : tie.Need-enum-told
 enum-told c = search needs

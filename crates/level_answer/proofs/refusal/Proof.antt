@@ -4,11 +4,11 @@ use borrow.Author.Tests.{not-true, not-false}
 use Rattle.plane.specs.Dart.{points, slots}
 use Rattle.plane.proofs.Fit.{points-fit, cells-fit}
 use Rattle.limits.proofs.Limit.{within-limits}
-use Rattle.level.specs.Draw.{answer}
-use Rattle.level.proofs.Refused.{size-refused, level-refused, sheet-refused, tables-refused, none-refused}
+use Rattle.level_answer.specs.Answer.{answer}
+use Rattle.level_answer.proofs.Tests.{size-refused, level-refused, sheet-refused, tables-refused, none-refused}
 use borrow.Author.Needs.{needs}
-use Rattle.level.proofs.draw.refusal.Statement.{statement}
-use Rattle.level.proofs.draw.refusal.Tie as tie
+use Rattle.level_answer.proofs.refusal.Statement.{statement}
+use Rattle.level_answer.proofs.refusal.Tie as tie
 
 within-requires : tie.Need-within-requires
 within-requires c κs = search needs
