@@ -18,8 +18,8 @@ use Rattle.paper.specs.Level.{side, tops}
 use Rattle.paper.specs.Enclosure.{parent}
 use Rattle.paper.specs.Drawing.{Tables, drawn, drawing, recovered, alike, same, judged}
 use Rattle.paper.specs.Joining.{at, on}
-use Rattle.paper.proofs.Marks.{within-fits, cells-slots, names-side-small}
-use Rattle.paper.proofs.Judge.{alike-iff}
+use Rattle.theory.proofs.Marks.{within-fits, cells-slots, names-side-small}
+use Rattle.paper.proofs.Alike.{alike-iff}
 use Rattle.framing.specs.Frame.{framed}
 use Rattle.masks.specs.Mask.{masked}
 use Rattle.lines.specs.Line.{nexts}

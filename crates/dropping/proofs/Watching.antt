@@ -17,7 +17,7 @@ use Rattle.plane.specs.Point.{degree}
 use Rattle.plane.proofs.Darts.{point-dart, dart-below}
 use Rattle.paper.specs.Level.{mask}
 use Rattle.paper.specs.Joining.{Links, at, on, shared, hanging, removed, prune, pruned}
-use Rattle.paper.proofs.Held.{mask-agree}
+use Rattle.theory.proofs.Held.{mask-agree}
 use Rattle.removal.specs.Links.{links}
 use Rattle.removal.proofs.Pruning.{lone-some, lone-none, prune-stop}
 use Rattle.lists.specs.Listed.{bounds, First, Listed, Bounded}

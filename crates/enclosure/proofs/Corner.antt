@@ -17,7 +17,7 @@ use Rattle.plane.specs.Dart.{mark, points, dart, point, beside, turned, reversa
 use Rattle.plane.proofs.Darts.{point-dart, reversal-dart, place, place-below}
 use Rattle.paper.specs.Enclosure.{first, parent}
 use Rattle.paper.specs.Joining.{at, on}
-use Rattle.paper.proofs.First.{every-cell, first-cell}
+use Rattle.theory.proofs.First.{every-cell, first-cell}
 use Rattle.laws.proofs.Column.{column-on, column-back, row-on, row-down}
 use Rattle.table.proofs.Entries.{on-entry}
 use Rattle.table.proofs.Half.{Half, half-more, half-all}

@@ -15,7 +15,7 @@ use Rattle.rules.specs.Turn.{kinding}
 use Rattle.rules.proofs.Kind.{kind-alone, kind-two}
 use Rattle.paper.specs.Level.{mask}
 use Rattle.paper.specs.Joining.{at, on}
-use Rattle.paper.proofs.Next.{mask-below}
+use Rattle.theory.proofs.Next.{mask-below}
 
 -- a weight where what was found is not the mark, else 0
 pub where-off : (r v : ℕ) → r ≡ mark → (0 ≡ v * number (not (eqb r mark))) × (0 ≤ v)

@@ -20,7 +20,7 @@ use Rattle.laws.specs.Table.{table}
 use Rattle.laws.proofs.Table.{length-table, getD-table, getD-map}
 use Rattle.plane.specs.Dart.{points}
 use Rattle.paper.specs.Name.{named, cells}
-use Rattle.paper.proofs.Name.{cell-below}
+use Rattle.theory.proofs.Name.{cell-below}
 use Rattle.framing.specs.Frame.{framed}
 use Rattle.laws.proofs.Column.{column-on, column-back, row-on, row-down}
 use Rattle.table.proofs.Entries.{set-cases}

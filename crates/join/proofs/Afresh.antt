@@ -7,8 +7,8 @@ use Rattle.limits.specs.Size.{within}
 use Rattle.paper.specs.Drawing.{Tables, Drawn}
 use Rattle.paper.specs.Joining.{joined}
 use Rattle.paper.specs.Sitting.{Joinable}
-use Rattle.paper.proofs.Marks.{within-fits}
-use Rattle.paper.proofs.Theorem.{removal-is-fresh, untouched}
+use Rattle.theory.proofs.Marks.{within-fits}
+use Rattle.theory.proofs.Theorem.{removal-is-fresh, untouched}
 use Rattle.join.specs.Faithful.{Faithful}
 
 pub joined-faithful : (w h : ℕ) (t u : Tables) (a b : ℕ) → within w h ≡ true → Drawn w h t → Joinable w h t a b

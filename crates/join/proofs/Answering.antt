@@ -18,7 +18,7 @@ use Rattle.paper.specs.Drawing.{Tables, Drawn}
 use Rattle.paper.specs.Joining.{joined}
 use Rattle.paper.specs.Refusal.{outcome, sized, stated, cleared, five, used, adjoin, joinRefusal, merged}
 use Rattle.paper.specs.Sitting.{Joinable}
-use Rattle.paper.proofs.Judge.{judged-drawn}
+use Rattle.theory.proofs.Judge.{judged-drawn}
 use Rattle.verdict.specs.declared.answer.Verdict.{Verdict}
 use Rattle.drawing.specs.Answer.{left}
 use Rattle.verdict.specs.Answer.{answer, answered}

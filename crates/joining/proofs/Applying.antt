@@ -11,7 +11,7 @@ use Rattle.plane.specs.Dart.{mark, points, slots, reversal}
 use Rattle.paper.specs.Level.{tops, marked}
 use Rattle.paper.specs.Enclosure.{parent, parents}
 use Rattle.paper.specs.Joining.{Links, at, on, smoothed, closes, closed, joined}
-use Rattle.paper.proofs.Piece.{tops-le}
+use Rattle.theory.proofs.Piece.{tops-le}
 use Rattle.lengths.specs.Given.{tables}
 use Rattle.enclosure.specs.Tops.{Rising}
 use Rattle.removal.specs.Links.{links}

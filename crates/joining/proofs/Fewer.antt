@@ -18,7 +18,7 @@ use Rattle.laws.proofs.Test.{clash, and-left}
 use Rattle.plane.specs.Dart.{mark, slots}
 use Rattle.paper.specs.Level.{marked}
 use Rattle.paper.specs.Joining.{Links, at, on, shared, chase, removed, hanging, prune, pruned}
-use Rattle.paper.proofs.Marks.{at-below, at-past, at-marked}
+use Rattle.theory.proofs.Marks.{at-below, at-past, at-marked}
 use Rattle.removal.specs.Taken.{loose}
 use Rattle.dropping.specs.Dropped.{dropped}
 use Rattle.table.proofs.Entries.{at-out}

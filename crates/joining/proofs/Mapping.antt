@@ -17,11 +17,11 @@ use Rattle.plane.specs.Point.{degree}
 use Rattle.paper.specs.Level.{mask}
 use Rattle.paper.specs.Drawing.{drawn}
 use Rattle.paper.specs.Joining.{Links, at, on}
-use Rattle.paper.proofs.Sheet.{sheet, lines-map, sheet-chart, sheet-few, border-alone}
-use Rattle.paper.proofs.Kept.{sheet-loops}
-use Rattle.paper.proofs.Held.{level-alone}
-use Rattle.paper.proofs.Removed.{Reads, on-links}
-use Rattle.paper.proofs.Drawn.{sheet-plane, anchors, drawn-reads, level-reads}
+use Rattle.theory.proofs.Sheet.{sheet, lines-map, sheet-chart, sheet-few, border-alone}
+use Rattle.theory.proofs.Kept.{sheet-loops}
+use Rattle.theory.proofs.Held.{level-alone}
+use Rattle.theory.proofs.Removed.{Reads, on-links}
+use Rattle.theory.proofs.Drawn.{sheet-plane, anchors, drawn-reads, level-reads}
 use Rattle.sharing.specs.Mapped.{Mapped}
 
 module _ {w h : ℕ} {x : Map} {l : Links} {s : List ℕ} (c : Chart x) (r : Reads w h x l s) (room : slots w h ≤ mark) where

@@ -12,8 +12,8 @@ use Rattle.paper.specs.Level.{side, border, next, plain, level}
 use Rattle.paper.specs.Drawing.{Tables, drawn, drawing, Drawn}
 use Rattle.paper.specs.Joining.{on}
 use Rattle.paper.specs.Refusal.{stated, used}
-use Rattle.paper.proofs.Sheet.{border-below}
-use Rattle.paper.proofs.Marks.{on-marked, cells-slots, within-fits, names-side-small}
+use Rattle.theory.proofs.Sheet.{border-below}
+use Rattle.theory.proofs.Marks.{on-marked, cells-slots, within-fits, names-side-small}
 use Rattle.lengths.proofs.Tested.{stated-parent}
 use Rattle.sharing.specs.Mapped.{Mapped}
 use Rattle.joining.specs.Apply.{Ready}

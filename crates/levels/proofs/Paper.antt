@@ -9,9 +9,9 @@ use Rattle.paper.specs.Name.{names}
 use Rattle.paper.specs.Level.{Level, side, border, along, plain, tops, kept2, kept3, among, level, marked}
 use Rattle.paper.specs.Joining.{on}
 use Rattle.paper.specs.Refusal.{levelTables}
-use Rattle.paper.proofs.Next.{Lines}
-use Rattle.paper.proofs.Sheet.{border-lines}
-use Rattle.paper.proofs.Marks.{on-marked, names-side-small, lines-inside}
+use Rattle.theory.proofs.Next.{Lines}
+use Rattle.theory.proofs.Sheet.{border-lines}
+use Rattle.theory.proofs.Marks.{on-marked, names-side-small, lines-inside}
 use Rattle.framing.specs.Frame.{framed}
 use Rattle.masks.specs.Mask.{ruled}
 use Rattle.lines.specs.Line.{nexts}

@@ -12,7 +12,7 @@ use Rattle.paper.specs.Name.{names}
 use Rattle.paper.specs.Level.{tops}
 use Rattle.paper.specs.Joining.{on}
 use Rattle.paper.specs.Refusal.{levelTables}
-use Rattle.paper.proofs.Marks.{within-fits}
+use Rattle.theory.proofs.Marks.{within-fits}
 use Rattle.framing.specs.Frame.{framed}
 use Rattle.masks.specs.Mask.{masked, plainMasks}
 use Rattle.lines.specs.Line.{nexts, others}

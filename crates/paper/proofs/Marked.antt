@@ -24,7 +24,7 @@ use Rattle.paper.specs.Drawing.{Tables, drawn, drawing, fresh, recover, 
 use Rattle.paper.specs.Joining.{at, on, between, shared, chase, removed, hanging, prune, pruned, low, high, spliced, smooth, smooths, smoothed, moved, close, closes, closed, joined}
 use Rattle.paper.specs.Refusal.{sized, cleared, outcome, levelRefusal, levelTables, levelled, five, stated, drawRefusal, mapped, used, adjoin, joinRefusal, merged, countRefusal, deepened, holed}
 use Rattle.laws.proofs.Test.{and-left, and-right}
-use Rattle.paper.proofs.Judge.{alike-iff}
+use Rattle.paper.proofs.Alike.{alike-iff}
 
 record Claim : Type 0 where
   computed : List ℕ

@@ -1,1 +1,1 @@
-// The paper's definitions are in specs/, its marked cases and the laws about the definitions in proofs/.
+// The paper's definitions are in specs/, its marked cases in proofs/.

@@ -22,10 +22,10 @@ use Rattle.rules.proofs.Turns.{each, each-at}
 use Rattle.paper.specs.Name.{cells}
 use Rattle.paper.specs.Level.{Level, side, border, mask, next, last, along, big, bent, tops, anchor, kept2, kept3, among, marked}
 use Rattle.paper.specs.Joining.{at, on}
-use Rattle.paper.proofs.Next.{Lines, mask-below, has-mask, point-next}
-use Rattle.paper.proofs.Sheet.{mask-present}
-use Rattle.paper.proofs.Piece.{length-tops}
-use Rattle.paper.proofs.Marks.{length-marked, at-held, on-marked, marked-same, marked-agree, next-stays, last-stays, lines-inside, along-on, next-small, along-next-small}
+use Rattle.theory.proofs.Next.{Lines, mask-below, has-mask, point-next}
+use Rattle.theory.proofs.Sheet.{mask-present}
+use Rattle.theory.proofs.Piece.{length-tops}
+use Rattle.theory.proofs.Marks.{length-marked, at-held, on-marked, marked-same, marked-agree, next-stays, last-stays, lines-inside, along-on, next-small, along-next-small}
 use Rattle.framing.specs.Frame.{framed}
 use Rattle.framing.proofs.Surround.{cells-framed}
 use Rattle.masks.specs.Mask.{around, masked}

@@ -12,10 +12,10 @@ use Rattle.paper.specs.Level.{side, border, next, along, plain, tops, kept3, am
 use Rattle.paper.specs.Enclosure.{parent, parents}
 use Rattle.paper.specs.Drawing.{Tables, drawn, drawing}
 use Rattle.paper.specs.Joining.{at, on}
-use Rattle.paper.proofs.Sheet.{border-lines, border-below}
-use Rattle.paper.proofs.Marks.{within-fits, on-marked, names-side-small}
-use Rattle.paper.proofs.Piece.{tops-le}
-use Rattle.paper.proofs.Joined.{parents-drawn}
+use Rattle.theory.proofs.Sheet.{border-lines, border-below}
+use Rattle.theory.proofs.Marks.{within-fits, on-marked, names-side-small}
+use Rattle.theory.proofs.Piece.{tops-le}
+use Rattle.theory.proofs.Joined.{parents-drawn}
 use Rattle.framing.specs.Frame.{framed}
 use Rattle.masks.specs.Mask.{masked}
 use Rattle.lines.specs.Line.{nexts}

@@ -7,7 +7,7 @@ use native.Mathlib.Omega.{arith}
 use Rattle.laws.specs.Least.{least}
 use Rattle.plane.specs.Dart.{points, slots}
 use Rattle.paper.specs.Name.{west, north, names}
-use Rattle.paper.proofs.Marks.{cells-slots}
+use Rattle.theory.proofs.Marks.{cells-slots}
 use Rattle.framing.specs.Frame.{Down, surround, framed}
 use Rattle.region.proofs.First.{first-down, first-names}
 

@@ -17,7 +17,7 @@ use Rattle.laws.proofs.Test.{clash}
 use Rattle.plane.specs.Dart.{mark, slots}
 use Rattle.paper.specs.Level.{marked}
 use Rattle.paper.specs.Joining.{Links, at, on, shared, chase, removed}
-use Rattle.paper.proofs.Marks.{at-below, at-past}
+use Rattle.theory.proofs.Marks.{at-below, at-past}
 use Rattle.table.specs.Trim.{trimmed}
 use Rattle.table.proofs.Entries.{at-in, at-entry, at-out, on-mark}
 use Rattle.table.proofs.Half.{Half, half-here}

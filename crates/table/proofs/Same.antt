@@ -11,7 +11,7 @@ use native.Mathlib.Decide.{ℕ-discrete}
 use lib.ListN.{length, getD}
 use lib.Seq.{ext-getD}
 use Rattle.paper.specs.Drawing.{alike}
-use Rattle.paper.proofs.Judge.{alike-iff}
+use Rattle.paper.proofs.Alike.{alike-iff}
 
 pub record Agreed (i : ℕ) (t u : List ℕ) : Type 0 where
   pub entry : (k : ℕ) → k < i → getD t k 0 ≡ getD u k 0

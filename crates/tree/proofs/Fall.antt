@@ -19,10 +19,10 @@ use Rattle.paper.specs.Level.{side, border}
 use Rattle.paper.specs.Enclosure.{parent}
 use Rattle.paper.specs.Drawing.{Tables, drawn, drawing, judged}
 use Rattle.paper.specs.Joining.{at, on}
-use Rattle.paper.proofs.Marks.{within-fits}
-use Rattle.paper.proofs.Enclosure.{Used, parentage, parents-outside, parents-past, parents-used, parents-below}
-use Rattle.paper.proofs.Enclosure.{parents-named, used-parent}
-use Rattle.paper.proofs.Judge.{judged-drawn}
+use Rattle.theory.proofs.Marks.{within-fits}
+use Rattle.theory.proofs.Enclosure.{Used, parentage, parents-outside, parents-past, parents-used, parents-below}
+use Rattle.theory.proofs.Enclosure.{parents-named, used-parent}
+use Rattle.theory.proofs.Judge.{judged-drawn}
 use Rattle.tree.specs.Tree.{known, Falls}
 
 -- an entry that is on is not the mark

@@ -1,5 +1,5 @@
 use mathlib.Core.Path.{_∙_}
-use Rattle.paper.proofs.Marks.{within-fits}
+use Rattle.theory.proofs.Marks.{within-fits}
 use Rattle.dropping.proofs.Dropping.{drop-links}
 use Rattle.dropping.proofs.Watching.{removed-watched}
 use Rattle.dropping.proofs.drop.drop_lines.Statement.{statement}

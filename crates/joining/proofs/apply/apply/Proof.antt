@@ -6,7 +6,7 @@ use lib.Seq.{length-take-le, length-front}
 use Rattle.plane.specs.Dart.{points, slots}
 use Rattle.limits.proofs.Limit.{within-limits}
 use Rattle.plane.proofs.Fit.{points-fit}
-use Rattle.paper.proofs.Marks.{within-fits}
+use Rattle.theory.proofs.Marks.{within-fits}
 use Rattle.table.proofs.Cleared.{cleared-same}
 use Rattle.lengths.proofs.Tested.{stated-long}
 use Rattle.lists.specs.Listed.{bounds, Lined}

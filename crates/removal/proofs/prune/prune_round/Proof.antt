@@ -3,7 +3,7 @@ use native.Mathlib.Omega.{arith}
 use borrow.Author.Tests.{not-true, not-false}
 use borrow.Author.Needs.{needs}
 use Rattle.plane.specs.Dart.{mark, slots}
-use Rattle.paper.proofs.Marks.{within-fits}
+use Rattle.theory.proofs.Marks.{within-fits}
 use Rattle.plane.proofs.Fit.{points-fit}
 use Rattle.removal.proofs.Pruning.{prune-stop, prune-go, round-links}
 use Rattle.removal.proofs.prune.prune_round.Statement.{statement}
