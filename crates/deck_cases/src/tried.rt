@@ -1,6 +1,6 @@
-use cases::lent;
-use cases::show;
-use cases::text;
+use case_files::text;
+use case_sheets::lent;
+use case_tables::show;
 use deck::answer::Read;
 use deck::answer::Written;
 ghost use mathlib.Core.Path.{_≡_};

@@ -1,15 +1,15 @@
-use cases::lengths::Lengths;
-use cases::lengths::Size;
-use cases::lent;
-use cases::show;
-use cases::tables;
-use cases::tables::Tables;
-use cases::tables::Works;
+use case_sheets::lengths::Lengths;
+use case_sheets::lengths::Size;
+use case_sheets::lent;
+use case_tables::show;
+use case_tables::tables;
+use case_tables::tables::Tables;
+use case_tables::tables::Works;
 use counting::answer::Count;
 use counts::count;
 use plane::dart;
 ghost use Prim.Native.Nat.{_≤_};
-ghost use Rattle.cases.specs.Room.{room, Fits};
+ghost use Rattle.case_sheets.specs.Room.{room, Fits};
 
 // What the judge answered: its number, and the work tables after it.
 pub struct Judged {

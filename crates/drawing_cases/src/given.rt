@@ -1,9 +1,9 @@
 use crate::asked;
-use cases::lengths::Lengths;
-use cases::lengths::Size;
-use cases::lent;
-use cases::tables;
-ghost use Rattle.cases.specs.Room.{Fits};
+use case_sheets::lengths::Lengths;
+use case_sheets::lengths::Size;
+use case_sheets::lent;
+use case_tables::tables;
+ghost use Rattle.case_sheets.specs.Room.{Fits};
 
 // The lengths that a case gives, without those of the tables that the counts fill.
 fn lengths_of(lengths: &[u16]) -> Lengths

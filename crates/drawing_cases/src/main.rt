@@ -15,8 +15,8 @@ mod asked;
 mod given;
 mod tried;
 
-use cases::file;
-use cases::text;
+use case_files::file;
+use case_files::text;
 
 // Runs the case of a line.
 fn run(line: &[u8]) {

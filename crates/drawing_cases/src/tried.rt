@@ -1,16 +1,16 @@
 use crate::asked;
 use crate::given;
-use cases::lengths;
-use cases::lengths::Lengths;
-use cases::lengths::Size;
-use cases::lent;
-use cases::made;
-use cases::show;
-use cases::tables;
-use cases::tables::Tables;
+use case_sheets::lengths;
+use case_sheets::lengths::Lengths;
+use case_sheets::lengths::Size;
+use case_sheets::lent;
+use case_sheets::made;
+use case_tables::show;
+use case_tables::tables;
+use case_tables::tables::Tables;
 use drawn::Drawn;
 use table::entry;
-ghost use Rattle.cases.specs.Room.{Fits};
+ghost use Rattle.case_sheets.specs.Room.{Fits};
 
 // The five tables of a sheet that was drawn, in full or their sums; of a refusal, whether they are as they were.
 fn show_tables(number: u16, full: bool, lengths: Lengths, tables: Tables) {

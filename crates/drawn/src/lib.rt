@@ -1,10 +1,10 @@
 // The call of drawing, for the programs that run cases.
-use cases::lengths::Lengths;
-use cases::lengths::Size;
-use cases::lent;
-use cases::tables::Tables;
-use cases::tables::Works;
-ghost use Rattle.cases.specs.Room.{Fits};
+use case_sheets::lengths::Lengths;
+use case_sheets::lengths::Size;
+use case_sheets::lent;
+use case_tables::tables::Tables;
+use case_tables::tables::Works;
+ghost use Rattle.case_sheets.specs.Room.{Fits};
 
 // What drawing a sheet answered: the refusal's number, and the tables after it.
 pub struct Drawn {

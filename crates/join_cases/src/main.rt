@@ -13,8 +13,8 @@ mod one;
 mod sitting;
 mod tried;
 
-use cases::file;
-use cases::text;
+use case_files::file;
+use case_files::text;
 
 // Runs the case of a line.
 fn run(line: &[u8]) {

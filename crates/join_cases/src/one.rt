@@ -1,14 +1,14 @@
-use cases::lengths::Lengths;
-use cases::lengths::Size;
-use cases::lent;
-use cases::show;
-use cases::tables;
-use cases::tables::Tables;
-use cases::tables::Works;
+use case_sheets::lengths::Lengths;
+use case_sheets::lengths::Size;
+use case_sheets::lent;
+use case_tables::show;
+use case_tables::tables;
+use case_tables::tables::Tables;
+use case_tables::tables::Works;
 use join::regions;
 use table::entry;
 ghost use Prim.Native.Nat.{_≤_};
-ghost use Rattle.cases.specs.Room.{Fits};
+ghost use Rattle.case_sheets.specs.Room.{Fits};
 
 // What a join answered: its number, and the tables after it.
 pub struct Joined {

@@ -1,15 +1,15 @@
 use crate::one;
-use cases::lengths::Lengths;
-use cases::lengths::Size;
-use cases::lent;
-use cases::show;
-use cases::tables;
-use cases::tables::Tables;
+use case_sheets::lengths::Lengths;
+use case_sheets::lengths::Size;
+use case_sheets::lent;
+use case_tables::show;
+use case_tables::tables;
+use case_tables::tables::Tables;
 use plane::dart;
 use plane::dart::Dart;
 use table::entry;
 ghost use Prim.Native.Nat.{_+_, _≤_, _<_};
-ghost use Rattle.cases.specs.Room.{Fits};
+ghost use Rattle.case_sheets.specs.Room.{Fits};
 
 // How a sitting goes: after how many joins each the tables are compared, and how far it is from a dart to the next.
 pub struct Pace {

@@ -1,16 +1,16 @@
 use crate::one;
 use crate::sitting;
 use crate::sitting::Pace;
-use cases::lengths;
-use cases::lengths::Lengths;
-use cases::lengths::Size;
-use cases::lent;
-use cases::made;
-use cases::show;
-use cases::tables;
-use cases::tables::Tables;
+use case_sheets::lengths;
+use case_sheets::lengths::Lengths;
+use case_sheets::lengths::Size;
+use case_sheets::lent;
+use case_sheets::made;
+use case_tables::show;
+use case_tables::tables;
+use case_tables::tables::Tables;
 use table::entry;
-ghost use Rattle.cases.specs.Room.{Fits};
+ghost use Rattle.case_sheets.specs.Room.{Fits};
 
 // Joins two names in five tables that a case gives.
 fn join_given(size: Size, values: &[u16], lengths: Lengths)

@@ -10,8 +10,8 @@
 // were, and again for the work tables.
 mod tried;
 
-use cases::file;
-use cases::text;
+use case_files::file;
+use case_files::text;
 
 // Runs the case of a line.
 fn run(line: &[u8]) {

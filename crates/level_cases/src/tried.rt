@@ -1,11 +1,11 @@
-use cases::lent;
-use cases::made;
-use cases::show;
-use cases::tables;
-use cases::tables::Works;
+use case_sheets::lent;
+use case_sheets::made;
+use case_tables::show;
+use case_tables::tables;
+use case_tables::tables::Works;
 use table::entry;
 ghost use Prim.Native.Nat.{_≤_};
-ghost use Rattle.cases.specs.Room.{room};
+ghost use Rattle.case_sheets.specs.Room.{room};
 
 // The width, the height and the level of a case.
 pub struct Case {

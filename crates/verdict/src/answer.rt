@@ -70,9 +70,8 @@ pub fn refusal(
 pub fn found(drawing: bool) -> Verdict
     ensures { λ r. ⌜ answer r ≡ cond drawing 0 5 ⌝ }
 {
-    if drawing {
-        Verdict::Done
-    } else {
-        Verdict::Drawing
+    match drawing {
+        true => Verdict::Done,
+        false => Verdict::Drawing,
     }
 }
