@@ -22,6 +22,17 @@ use Rattle.paper.specs.Joining.{at}
 use Rattle.keeping.specs.Keep.{kindAt, large, stands, anchored, settles, keeps}
 use Rattle.table.proofs.Entries.{values-table}
 
+-- Whether level 2 keeps a point, by the kind k of its mask.
+module _ (k j : ℕ) (e : k ≡ j) where
+  pub bend-large : k ≡ 3 → 1 ≡ number (eqb j 3 || eqb j 2)
+  bend-large f = rw (eq-eqb j 3 (sym e ∙ f))
+
+  pub bend-corner : k ≢ 3 → k ≡ 2 → 1 ≡ number (eqb j 3 || eqb j 2)
+  bend-corner n f = rw (ne-eqb j 3 (λ q. n (e ∙ q)), eq-eqb j 2 (sym e ∙ f))
+
+  pub bend-none : k ≢ 3 → k ≢ 2 → 0 ≡ number (eqb j 3 || eqb j 2)
+  bend-none n m = rw (ne-eqb j 3 (λ q. n (e ∙ q)), ne-eqb j 2 (λ q. m (e ∙ q)))
+
 -- The kind of a mask; no mask is large or a corner that is not among the sixteen.
 module _ (m j : ℕ) (small : eqb mark j ≡ eqb 4 j) where
   kind-past : 16 ≤ m → eqb (at kinding m) j ≡ eqb (becomesOf m 0) j

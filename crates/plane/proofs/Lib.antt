@@ -6,3 +6,4 @@ pub mod Fit
 pub mod Mask
 pub mod Points
 pub mod Reach
+mod Rows

@@ -1,8 +1,9 @@
+use mathlib.Core.Path.{sym, _∙_}
 use native.Mathlib.Omega.{arith}
-use borrow.Author.Tests.{not-true, not-false, lt-leb, le-leb}
-use Rattle.plane.specs.Dart.{line}
+use borrow.Author.Tests.{not-true, not-false}
 use Rattle.limits.proofs.Limit.{within-limits}
 use borrow.Author.Needs.{needs}
+use Rattle.plane.proofs.Rows.{off-rows, on-rows}
 use Rattle.plane.proofs.dart.Dart.on_sheet.Statement.{statement}
 use Rattle.plane.proofs.dart.Dart.on_sheet.Tie as tie
 
@@ -22,8 +23,9 @@ div-if2 : tie.Need-div-if2
 div-if2 c = search needs
 
 returns-2 : tie.Need-returns-2
-unfolding line
-returns-2 c = rw (← (c .before .before .before .within .ensures), not-false (c .before .before .before .within .result) (c .before .before .if1 .left), ← (c .before .point .ensures), lt-leb _ _ (c .if2 .taken))
+returns-2 c =
+    let w = c .before .before .before in
+    off-rows _ _ _ _ (sym (w .within .ensures) ∙ not-false _ (c .before .before .if1 .left)) (c .before .point .ensures) (c .if2 .taken)
 
 rem-stays : tie.Need-rem-stays
 rem-stays c = search needs
@@ -38,8 +40,10 @@ stays-requires : tie.Need-stays-requires
 stays-requires c κs = search needs
 
 returns-3 : tie.Need-returns-3
-unfolding line
-returns-3 c = rw (← (c .before .before .before .before .before .within .ensures), not-false (c .before .before .before .before .before .within .result) (c .before .before .before .before .if1 .left), ← (c .before .before .before .point .ensures), le-leb _ _ (c .before .before .if2 .left), ← (c .before .direction .ensures)) (c .stays .ensures)
+returns-3 c =
+    let w = c .before .before .before .before .before in
+    on-rows _ _ _ _ (sym (w .within .ensures) ∙ not-false _ (c .before .before .before .before .if1 .left)) (c .before .before .before .point .ensures)
+    (c .before .before .if2 .left) _ (c .before .direction .ensures) _ (c .stays .ensures)
 
 pub on-sheet-spec : {M : Type 1} → statement M
 on-sheet-spec =
