@@ -7,8 +7,7 @@ ghost use lib.Dec.{eqb};
 ghost use Rattle.plane.specs.Dart.{mark};
 ghost use Rattle.paper.specs.Joining.{at, shared, chase};
 ghost use Rattle.removal.specs.Links.{links};
-ghost use Rattle.removal.specs.Taken.{leaping};
-ghost use Rattle.chasing.specs.Led.{led};
+ghost use Rattle.chasing.specs.Led.{leaping, led};
 
 // Whether the other of a dart has a name for its side.
 fn is_across(side: &[u16], other: &[u16], name: u16, dart: u16) -> bool

@@ -3,7 +3,7 @@
 --   close o t l p   == the links with the loop at point p moved to its top, where p has only two lines left
 --   Rising t        == no point's top is after the point
 use mathlib.Core.Path.{_≡_, refl, sym, _∙_, ap}
-use mathlib.Core.Bool.{Bool, true, false}
+use mathlib.Core.Bool.{Bool, true, false, and-false}
 use mathlib.Core.List.{List}
 use Prim.Native.Nat.{ℕ, zero, suc, _<_}
 use native.Mathlib.Omega.{arith}
@@ -29,29 +29,29 @@ unfolding dart
 top-fit t p r h = let u = r .up p in omega arith
 
 -- a point is treated by what is seen there
-module _ (o : ℕ → Bool) (t : List ℕ) (l : Links) (p : ℕ) (c : Bool) (s : c ≡ eqb (degree (mask (on (l .next)) p)) 2) where
-  pub close-other : c ≡ false → l ≡ close o t l p
+module _ (o : ℕ → Bool) (t : List ℕ) (l : Links) (p u v x : ℕ) (first : u ≡ dart p (low (mask (on (l .next)) p)))
+    (last : v ≡ dart p (high (mask (on (l .next)) p))) (e : x ≡ at (l .other) u) where
+  abbrev ends : Bool
+  ends = eqb (at (l .other) (dart p (low (mask (on (l .next)) p)))) (dart p (high (mask (on (l .next)) p)))
+
+  across : at (l .other) (dart p (low (mask (on (l .next)) p))) ≡ x
+  across = ap (at (l .other)) (sym first) ∙ sym e
+
+  pub close-edges : (x ≡ v → ⊥) → l ≡ close o t l p
   unfolding close
-  close-other n = rw (sym s ∙ n, close)
+  close-edges n =
+      let f : ends ≡ false = ne-eqb _ _ (λ q. n (sym across ∙ q ∙ sym last)) in
+      rw (f, and-false (eqb (degree (mask (on (l .next)) p)) 2), close)
 
-  module _ (two : c ≡ true) (u v x : ℕ) (first : u ≡ dart p (low (mask (on (l .next)) p)))
-      (last : v ≡ dart p (high (mask (on (l .next)) p))) (e : x ≡ at (l .other) u) where
-    here : eqb (degree (mask (on (l .next)) p)) 2 ≡ true
-    here = sym s ∙ two
-
-    abbrev ends : Bool
-    ends = eqb (at (l .other) (dart p (low (mask (on (l .next)) p)))) (dart p (high (mask (on (l .next)) p)))
-
-    across : at (l .other) (dart p (low (mask (on (l .next)) p))) ≡ x
-    across = ap (at (l .other)) (sym first) ∙ sym e
-
-    pub close-edges : (x ≡ v → ⊥) → l ≡ close o t l p
+  module _ (c : Bool) (s : c ≡ eqb (degree (mask (on (l .next)) p)) 2) where
+    pub close-other : c ≡ false → l ≡ close o t l p
     unfolding close
-    close-edges n =
-        let f : ends ≡ false = ne-eqb _ _ (λ q. n (sym across ∙ q ∙ sym last)) in
-        rw (here, f, close)
+    close-other n = rw (sym s ∙ n, close)
 
-    module _ (loop : x ≡ v) (b : Bool) (r : b ≡ eqb (degree (mask o p)) 2) where
+    module _ (loop : x ≡ v) (two : c ≡ true) (b : Bool) (r : b ≡ eqb (degree (mask o p)) 2) where
+      here : eqb (degree (mask (on (l .next)) p)) 2 ≡ true
+      here = sym s ∙ two
+
       round : ends ≡ true
       round = eq-eqb _ _ (across ∙ loop ∙ last)
 

@@ -1,5 +1,4 @@
 use plane::dart;
-use rules::turn;
 use table::entry;
 ghost use mathlib.Core.Path.{_≡_};
 ghost use mathlib.Core.Bool.{true};
@@ -7,7 +6,7 @@ ghost use Prim.Native.Nat.{_<_};
 ghost use lib.ListN.{length};
 ghost use Rattle.limits.specs.Size.{within};
 ghost use Rattle.plane.specs.Dart.{mark, points, dart};
-ghost use Rattle.rules.specs.Turn.{kinding};
+ghost use Rattle.rules.specs.Turn.{pointTable};
 ghost use Rattle.paper.specs.Joining.{on, moved, close, closes};
 ghost use Rattle.removal.specs.Links.{links};
 ghost use Rattle.enclosure.specs.Tops.{Rising};
@@ -24,9 +23,11 @@ fn move_loop(next: &mut [u16], other: &mut [u16], u: u16, v: u16, e: u16, f: u16
     entry::put_pair(other, e, f, f, e);
 }
 
-// A loop's point that has only two lines left gives way to the top of its piece.
+// A loop's point that has only two lines left gives way to the top of its piece. Before has entries for the lines before
+// the join, lines for those that remain.
 fn close_point(
-    kinds: &[u16; 16],
+    outcomes: &[u16; 256],
+    before: &[u16],
     lines: &[u16],
     tops: &[u16],
     next: &mut [u16],
@@ -34,16 +35,13 @@ fn close_point(
     point: u16,
 )
     requires { ⌜
-        (now kinds ≡ kinding) × (dart point 3 < mark) × (point < length (now tops)) × Rising (now tops)
+        (now outcomes ≡ pointTable) × (dart point 3 < mark) × (point < length (now tops)) × Rising (now tops)
         ⌝ }
     ensures { λ _. ⌜
         links (now (next .exit)) (now (other .exit)) ≡
         close (on (now (lines .entry))) (now (tops .entry)) (links (now (next .entry)) (now (other .entry))) point
         ⌝ }
 {
-    if !ends::two(kinds, next, point) {
-        return;
-    }
     let seen = ends::seen(next, point);
     let u = seen.first;
     let v = seen.last;
@@ -51,35 +49,42 @@ fn close_point(
     if x != v {
         return;
     }
-    if !ends::two(kinds, lines, point) {
+    if !ends::two(outcomes, before, next, point) {
+        return;
+    }
+    if !ends::two(outcomes, before, lines, point) {
         return;
     }
     let anchor = ends::seen(lines, tops[point as usize]);
     move_loop(next, other, u, v, anchor.first, anchor.last);
 }
 
-// Step 4: the darts of each closed curve move to its anchor. Lines has entries for the lines that remain, tops the tops
-// of their pieces.
+// Step 4: the darts of each closed curve move to its anchor. Before has entries for the lines before the join, lines for
+// those that remain, tops the tops of their pieces.
 pub fn close(
     width: u16,
     height: u16,
+    outcomes: &[u16; 256],
+    before: &[u16],
     lines: &[u16],
     tops: &[u16],
     next: &mut [u16],
     other: &mut [u16],
 )
-    requires { ⌜ (within width height ≡ true) × (length (now tops) ≡ points width height) × Rising (now tops) ⌝ }
+    requires { ⌜
+        (within width height ≡ true) × (now outcomes ≡ pointTable) × (length (now tops) ≡ points width height) ×
+        Rising (now tops)
+        ⌝ }
     ensures { λ _. ⌜
         links (now (next .exit)) (now (other .exit)) ≡
         closes (on (now (lines .entry))) (now (tops .entry)) (points width height) 0
         (links (now (next .entry)) (now (other .entry)))
         ⌝ }
 {
-    let kinds = turn::kinds();
     let n = (width + 1) * (height + 1);
     let mut p: u16 = 0;
     while p < n {
-        close_point(&kinds, lines, tops, next, other, p);
+        close_point(outcomes, before, lines, tops, next, other, p);
         p += 1;
     }
 }

@@ -1,18 +1,17 @@
 -- What is seen at a point.
 --   at t d, on t d  == the entry of dart d, the mark past the end; that it is not the mark
-use mathlib.Core.Path.{_≡_, sym, _∙_, ap}
-use mathlib.Core.Bool.{true, not}
+use mathlib.Core.Path.{_≡_}
+use mathlib.Core.Bool.{true, false, not, _||_}
 use mathlib.Core.List.{List}
 use Prim.Native.Nat.{ℕ, _+_, _*_, _≤_, _<_, zero-le}
 use native.Mathlib.Nat.{add-zero, one-mul, mul-zero, mul-one, le-refl}
 use lib.Dec.{eqb}
-use lib.ListN.{getD}
 use borrow.Author.Tests.{eq-eqb, ne-eqb}
 use Rattle.laws.specs.Table.{number}
 use Rattle.plane.specs.Dart.{mark, dart}
-use Rattle.plane.specs.Point.{bits, degree}
-use Rattle.rules.specs.Turn.{kinding}
-use Rattle.rules.proofs.Kind.{kind-alone, kind-two}
+use Rattle.plane.specs.Point.{bits, half, has, degree}
+use Rattle.rules.specs.Turn.{becoming}
+use Rattle.rules.proofs.Becoming.{becoming-two}
 use Rattle.paper.specs.Level.{mask}
 use Rattle.paper.specs.Joining.{at, on}
 use Rattle.theory.proofs.Next.{mask-below}
@@ -35,16 +34,18 @@ mask-sum e s w n a b c d i j k l t p x y z u = (sum, rw sum (mask-below (on t) p
     sum : a + b + c + d ≡ mask (on t) p
     sum = rw (add-zero, i, j, k, l, x, y, z, u, one-mul)
 
--- what the point table says of a mask where no line is taken
-module _ (ks : List ℕ) (m k : ℕ) (b : m < 16) (q : ks ≡ kinding) (e : k ≡ getD ks m 0) where
-  said : k ≡ getD kinding m 0
-  said = e ∙ ap (λ t. getD t m 0) q
+-- whether two lines are left
+module _ (m l k : ℕ) (a : m < 16) (b : l < 16) (e : k ≡ becoming m l) where
+  said : (eqb k 1 || eqb k 2) ≡ eqb (degree l) 2
+  said = rw e (becoming-two m l a b)
 
-  pub lone-kind : eqb k 4 ≡ eqb (degree m) 1
-  lone-kind = kind-alone m k b said
+  pub two-in-line : k ≡ 1 → true ≡ eqb (degree l) 2
+  two-in-line f = rw (eq-eqb k 1 f) at said
 
-  pub two-in-line : k ≡ 1 → true ≡ eqb (degree m) 2
-  two-in-line f = rw (eq-eqb k 1 f) at (kind-two m k b said)
+  pub two-corner : (k ≡ 1 → ⊥) → eqb k 2 ≡ eqb (degree l) 2
+  two-corner n = rw (ne-eqb k 1 n) at said
 
-  pub two-corner : (k ≡ 1 → ⊥) → eqb k 2 ≡ eqb (degree m) 2
-  two-corner n = rw (ne-eqb k 1 n) at (kind-two m k b said)
+-- a point with no line left has not two
+pub two-none : (l : ℕ) → l ≡ 0 → false ≡ eqb (degree l) 2
+unfolding degree has half
+two-none l e = rw e

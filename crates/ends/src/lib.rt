@@ -1,4 +1,4 @@
-// The darts of a level that leave a point: which, whether they are two, whether one is alone.
+// The darts of a level that leave a point: which, and whether they are two, by the point table.
 use plane::dart;
 use rules::turn;
 use table::entry;
@@ -10,7 +10,7 @@ ghost use lib.Dec.{eqb};
 ghost use Rattle.laws.specs.Table.{number};
 ghost use Rattle.plane.specs.Dart.{mark, dart};
 ghost use Rattle.plane.specs.Point.{degree};
-ghost use Rattle.rules.specs.Turn.{kinding};
+ghost use Rattle.rules.specs.Turn.{pointTable, becoming};
 ghost use Rattle.paper.specs.Level.{mask};
 ghost use Rattle.paper.specs.Joining.{at, on, low, high};
 
@@ -61,34 +61,32 @@ pub fn mask(table: &[u16], point: u16) -> u16
     mask_of(east, south, west, north)
 }
 
-// Whether one dart alone leaves a point: the point table, with no line taken, says that this cannot be.
-pub fn lone(kinds: &[u16; 16], next: &[u16], point: u16) -> bool
-    requires { ⌜ (now kinds ≡ kinding) × (dart point 3 < mark) ⌝ }
-    ensures { λ r. ⌜ r ≡ eqb (degree (mask (on (now (next .entry))) point)) 1 ⌝ }
+// What a point becomes, by the point table, that had the lines before and has the lines left: the table is read at the
+// lines that were there and those of them that are taken.
+fn becoming(outcomes: &[u16; 256], before: u16, left: u16) -> u16
+    requires { ⌜ (now outcomes ≡ pointTable) × (before < 16) × (left < 16) ⌝ }
+    ensures { λ r. ⌜ r ≡ becoming before left ⌝ }
 {
-    let lines = mask(next, point);
-    kinds[lines as usize] == turn::IMPOSSIBLE
+    let present = before | left;
+    let taken = present - left;
+    outcomes[(16 * present + taken) as usize]
 }
 
-// Whether a mask has exactly two lines: the point table, with no line taken, says that they are in line or a corner.
-fn is_two(kinds: &[u16; 16], lines: u16) -> bool
-    requires { ⌜ (now kinds ≡ kinding) × (lines < 16) ⌝ }
-    ensures { λ r. ⌜ r ≡ eqb (degree lines) 2 ⌝ }
+// Whether exactly two lines are left at a point: it becomes two lines in line or a corner. Before has entries for the lines
+// that were there, left for those that are left.
+pub fn two(outcomes: &[u16; 256], before: &[u16], left: &[u16], point: u16) -> bool
+    requires { ⌜ (now outcomes ≡ pointTable) × (dart point 3 < mark) ⌝ }
+    ensures { λ r. ⌜ r ≡ eqb (degree (mask (on (now (left .entry))) point)) 2 ⌝ }
 {
-    let kind = kinds[lines as usize];
+    let lines = mask(left, point);
+    if lines == 0 {
+        return false;
+    }
+    let kind = becoming(outcomes, mask(before, point), lines);
     if kind == turn::IN_LINE {
         return true;
     }
     kind == turn::CORNER
-}
-
-// Whether exactly two darts leave a point for which a table has entries.
-pub fn two(kinds: &[u16; 16], table: &[u16], point: u16) -> bool
-    requires { ⌜ (now kinds ≡ kinding) × (dart point 3 < mark) ⌝ }
-    ensures { λ r. ⌜ r ≡ eqb (degree (mask (on (now (table .entry))) point)) 2 ⌝ }
-{
-    let lines = mask(table, point);
-    is_two(kinds, lines)
 }
 
 // The first direction of a mask; 3 where it has none.

@@ -1,6 +1,6 @@
 -- Joining, step by step.
---   dropped ..      == the links after steps 1 and 2
-use mathlib.Core.Path.{_≡_, _∙_, ap}
+--   removed ..      == the links after step 1
+use mathlib.Core.Path.{_≡_, sym, _∙_, ap}
 use mathlib.Core.Bool.{Bool, true, cond}
 use mathlib.Core.List.{List}
 use Prim.Native.Nat.{ℕ, _+_, _*_, _<_}
@@ -10,35 +10,31 @@ use Rattle.laws.specs.Least.{lower}
 use Rattle.plane.specs.Dart.{mark, points, slots, reversal}
 use Rattle.paper.specs.Level.{tops, marked}
 use Rattle.paper.specs.Enclosure.{parent, parents}
-use Rattle.paper.specs.Joining.{Links, at, on, smoothed, closes, closed, joined}
+use Rattle.paper.specs.Joining.{Links, at, on, shared, removed, rest1, rest3, smoothed, closes, closed, joined}
 use Rattle.theory.proofs.Piece.{tops-le}
 use Rattle.lengths.specs.Given.{tables}
 use Rattle.enclosure.specs.Tops.{Rising}
 use Rattle.removal.specs.Links.{links}
-use Rattle.dropping.specs.Dropped.{dropped}
-use Rattle.joining.proofs.Fewer.{dropped-fewer, on-lowered}
+use Rattle.joining.proofs.Fewer.{removed-fewer, on-lowered}
 
--- Steps 3 to 5.
-pub tops-rising : (w h : ℕ) (o : ℕ → Bool) (t : List ℕ) → t ≡ tops w h o → Rising t
-tops-rising w h o t e = rw e (record { up = tops-le w h o })
-
+-- Steps 3 and 4.
 module _ (w h : ℕ) (o : ℕ → Bool) (t : List ℕ) (e : t ≡ tops w h o) where
-  pub settle-links : (q : ℕ → Bool) (l k j : Links) → k ≡ smoothed w h l → j ≡ closes q t (points w h) 0 k
-      → j ≡ closes q (tops w h o) (points w h) 0 (smoothed w h l)
-  settle-links q l k j f g = g ∙ rw (e, f)
+  pub tops-rising : Rising t
+  tops-rising = rw e (record { up = tops-le w h o })
 
-  pub settle-parents : (s p : List ℕ) → p ≡ table (w * h + 1) (parent w o (at s) t) → p ≡ parents w h o (at s)
-  unfolding parents
-  settle-parents s p f = f ∙ rw e
+  pub settle-links : (l k j : Links) → k ≡ smoothed w h l → j ≡ closes o t (points w h) 0 k
+      → j ≡ closed w h o (smoothed w h l)
+  unfolding closed
+  settle-links l k j f g = g ∙ rw (e, f)
 
--- All five steps, from the tables n, s, m, o, p to the tables n₁, s₁, m₁, o₁, p₁; k has the links after steps 1 and 2.
+-- All steps, from the tables n, s, m, o, p to the tables n₁, s₁, m₁, o₁, p₁; k has the links of level 3 after step 1.
 module _ (w h a b : ℕ) (n s m o p : List ℕ) (u : a < mark) (v : b < mark) (long : length s ≡ slots w h)
     (sided : (d : ℕ) → on n d ≡ true → on s d ≡ true) (n₁ s₁ m₁ o₁ p₁ : List ℕ) (k : Links)
-    (plain : n₁ ≡ dropped w h s a b (links n (table (slots w h) (reversal w))) .next)
-    (drop : k ≡ dropped w h s a b (links m o))
+    (plain : n₁ ≡ removed w h (links n (table (slots w h) (reversal w))) (shared s (at (table (slots w h) (reversal w))) a b) .next)
+    (curves : k ≡ removed w h (links m o) (shared s (at o) a b))
+    (settled : links m₁ o₁ ≡ closed w h (on n₁) (smoothed w h k))
     (lowered : s₁ ≡ table (length s) (λ d. cond (on n₁ d) (lower a b (at s d)) mark))
-    (settled : links m₁ o₁ ≡ closes (on n₁) (tops w h (on s₁)) (points w h) 0 (smoothed w h k))
-    (found : p₁ ≡ parents w h (on s₁) (at s₁)) where
+    (found : p₁ ≡ table (w * h + 1) (parent w (on s₁) (at s₁) (tops w h (on n₁)))) where
   sides : s₁ ≡ marked w h (on n₁) (λ d. lower a b (at s d))
   unfolding marked
   sides = lowered ∙ ap (λ z. table z (λ d. cond (on n₁ d) (lower a b (at s d)) mark)) long
@@ -48,8 +44,15 @@ module _ (w h a b : ℕ) (n s m o p : List ℕ) (u : a < mark) (v : b < mark) (l
   same-lines =
       rw sides
       (on-lowered w h a b s n₁ u v long
-      (λ d q. sided d (dropped-fewer w h s a b (links n (table (slots w h) (reversal w))) d (rw plain at q))))
+      (λ d q.
+      sided d
+      (removed-fewer w h (links n (table (slots w h) (reversal w))) (shared s (at (table (slots w h) (reversal w))) a b) d
+      (rw plain at q))))
+
+  named : p₁ ≡ parents w h (on s₁) (at s₁)
+  unfolding parents
+  named = found ∙ ap (λ z. table (w * h + 1) (parent w (on s₁) (at s₁) (tops w h z))) (sym same-lines)
 
   pub all-steps : tables n₁ s₁ m₁ o₁ p₁ ≡ joined w h (tables n s m o p) a b
-  unfolding joined dropped closed
-  all-steps = rw (← plain, ← sides, ← drop, ← (rw same-lines at settled), ← found)
+  unfolding joined rest1 rest3
+  all-steps = rw (← plain, ← sides, ← curves, ← settled, ← named)

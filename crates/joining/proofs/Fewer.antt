@@ -1,28 +1,24 @@
 -- The lines that remain are lines that were there, and they have sides.
 --   marked w h held f == the table of f at the darts that are held
---   dropped ..      == the links after steps 1 and 2
+--   removed ..      == the links without the darts that are taken
 use mathlib.Core.Path.{_≡_, refl, sym, _∙_, ap, fun-ext}
 use mathlib.Core.Bool.{Bool, true, false, cond, not, _&&_}
 use mathlib.Core.List.{List}
 use mathlib.Core.Logic.{_≢_, ⊎-elim}
-use Prim.Native.Nat.{ℕ, zero, suc, _≤_, _<_}
+use Prim.Native.Nat.{ℕ, _≤_, _<_}
 use native.Mathlib.Decide.{decLt}
 use native.Mathlib.Omega.{arith}
 use lib.Dec.{eqb}
 use lib.ListN.{length}
 use borrow.Author.Tests.{eq-eqb, ne-eqb, eqb-false, not-true}
 use Rattle.laws.specs.Least.{lower}
-use Rattle.laws.specs.Table.{some}
 use Rattle.laws.proofs.Least.{lower-either}
 use Rattle.laws.proofs.Test.{clash, and-left}
 use Rattle.plane.specs.Dart.{mark, slots}
 use Rattle.paper.specs.Level.{marked}
-use Rattle.paper.specs.Joining.{Links, at, on, shared, chase, removed, hanging, prune, pruned}
+use Rattle.paper.specs.Joining.{Links, at, on, chase, removed}
 use Rattle.theory.proofs.Marks.{at-below, at-past, at-marked}
-use Rattle.removal.specs.Taken.{loose}
-use Rattle.dropping.specs.Dropped.{dropped}
-use Rattle.table.proofs.Entries.{at-out}
-use Rattle.table.proofs.Entries.{on-mark}
+use Rattle.table.proofs.Entries.{at-out, on-mark}
 
 module _ (t : List ℕ) (d : ℕ) (e : on t d ≡ true) where
   pub on-no-mark : at t d ≢ mark
@@ -52,33 +48,11 @@ module _ (w h : ℕ) where
       go true q = q
       go false q = clash e (on-mark (marked w h held f) d (marked-off held f d q))
 
-  removed-fewer : (l : Links) (f : ℕ → Bool) (d : ℕ) → on (removed w h l f .next) d ≡ true → on (l .next) d ≡ true
+  pub removed-fewer : (l : Links) (f : ℕ → Bool) (d : ℕ) → on (removed w h l f .next) d ≡ true → on (l .next) d ≡ true
   unfolding removed
   removed-fewer l f d e =
       and-left (on (l .next) d) (not (f d))
       (marked-held (λ d. on (l .next) d && not (f d)) (λ d. chase l f (at (l .next) d)) d e)
-
-  prune-fewer : (n : ℕ) (l : Links) (d : ℕ) → on (prune n w h l .next) d ≡ true → on (l .next) d ≡ true
-  unfolding prune
-  prune-fewer zero l d e = e
-  prune-fewer (suc n) l d e =
-      go (some (slots w h) (hanging l))
-      (prune-fewer n (removed w h l (loose l)) d) e
-    where
-      k : Links
-      k = removed w h l (loose l)
-
-      go : (b : Bool) → (on (prune n w h k .next) d ≡ true → on (k .next) d ≡ true)
-          → on ((elim b as (λ _. Links) [ true ↦ prune n w h k | false ↦ l ]) .next) d ≡ true → on (l .next) d ≡ true
-      go true r q = removed-fewer l (loose l) d (r q)
-      go false r q = q
-
-  pub dropped-fewer : (s : List ℕ) (a b : ℕ) (l : Links) (d : ℕ) → on (dropped w h s a b l .next) d ≡ true
-      → on (l .next) d ≡ true
-  unfolding dropped pruned
-  dropped-fewer s a b l d e =
-      let k = removed w h l (shared s (at (l .other)) a b) in
-      removed-fewer l (shared s (at (l .other)) a b) d (prune-fewer (slots w h) k d e)
 
   -- the lines that remain have sides, also with a and b made one
   pub on-lowered : (a b : ℕ) (s n : List ℕ) → a < mark → b < mark → length s ≡ slots w h

@@ -1,7 +1,7 @@
 -- The tables of a drawing, at level 1 and at level 3, are those of a map.
 --   Mapped s n o    == the links n, o with the sides s are those of a map
 --   Reads w h x l s == the tables l and s have next, other and side of the map x
-use mathlib.Core.Path.{_≡_, sym, _∙_, ap, fun-ext}
+use mathlib.Core.Path.{_≡_, sym, _∙_, ap}
 use mathlib.Core.Bool.{true}
 use mathlib.Core.List.{List}
 use Prim.Native.Nat.{ℕ, _≤_}
@@ -13,15 +13,12 @@ use Rattle.laws.proofs.Level.{level-chart}
 use Rattle.laws.proofs.Loop.{loops-passes}
 use Rattle.laws.proofs.Over.{links}
 use Rattle.plane.specs.Dart.{mark, slots, reversal}
-use Rattle.plane.specs.Point.{degree}
-use Rattle.paper.specs.Level.{mask}
 use Rattle.paper.specs.Drawing.{drawn}
 use Rattle.paper.specs.Joining.{Links, at, on}
-use Rattle.theory.proofs.Sheet.{sheet, lines-map, sheet-chart, sheet-few, border-alone}
+use Rattle.theory.proofs.Sheet.{sheet, lines-map, sheet-chart, sheet-few}
 use Rattle.theory.proofs.Kept.{sheet-loops}
-use Rattle.theory.proofs.Held.{level-alone}
 use Rattle.theory.proofs.Removed.{Reads, on-links}
-use Rattle.theory.proofs.Drawn.{sheet-plane, anchors, drawn-reads, level-reads}
+use Rattle.theory.proofs.Drawn.{drawn-reads, level-reads}
 use Rattle.sharing.specs.Mapped.{Mapped}
 
 module _ {w h : ℕ} {x : Map} {l : Links} {s : List ℕ} (c : Chart x) (r : Reads w h x l s) (room : slots w h ≤ mark) where
@@ -36,8 +33,8 @@ module _ {w h : ℕ} {x : Map} {l : Links} {s : List ℕ} (c : Chart x) (r : Rea
       on-links (l .next) (r .nexts)
       (λ d e q. let b = rw (r .size) at (c .turns .below (nx d) (c .turns .stays d e)) in omega arith)
 
-  reads-mapped : ((p : ℕ) → degree (mask (x .on) p) ≡ 1 → ⊥) → Mapped s (l .next) (l .other)
-  reads-mapped alone =
+  reads-mapped : Mapped s (l .next) (l .other)
+  reads-mapped =
       record {
         stays = λ d e.
             let o = sym (on-next d) ∙ e in
@@ -51,17 +48,15 @@ module _ {w h : ℕ} {x : Map} {l : Links} {s : List ℕ} (c : Chart x) (r : Rea
         keeps = λ d e.
             let o = sym (on-next d) ∙ e in
             ap (at s) (next-at d o) ∙ r .sides (nx d) (c .turns .stays d o) ∙ c .keeps d o ∙ sym (r .sides d o);
-        alone = λ p e. alone p (ap (λ q. degree (mask q p)) (sym (fun-ext on-next)) ∙ e);
       }
 
 module _ (w h : ℕ) (n : List ℕ) (room : slots w h ≤ mark) where
   pub plain-mapped : Mapped (drawn w h n .side1) (drawn w h n .next1) (table (slots w h) (reversal w))
   unfolding sheet lines-map
-  plain-mapped = reads-mapped (sheet-chart w h n) (drawn-reads w h n) room (border-alone w h n)
+  plain-mapped = reads-mapped (sheet-chart w h n) (drawn-reads w h n) room
 
   pub curves-mapped : Mapped (drawn w h n .side1) (drawn w h n .next3) (drawn w h n .other3)
   curves-mapped =
       let c = sheet-chart w h n in
       let o = sheet-loops w h n in
       reads-mapped (level-chart c (o .covers) (loops-passes c (sheet-few w h n) o)) (level-reads w h n) room
-      (level-alone (sheet-plane w h n) (anchors w h n))

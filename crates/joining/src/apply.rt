@@ -1,51 +1,89 @@
 use closing::close;
-use dropping::drop;
 use enclosure::parent;
 use lowering::side;
 use pieces::points;
+use rules::turn;
+use sharing::shared;
 use smoothing::smooth;
 use table::entry;
 ghost use mathlib.Core.Path.{_≡_};
-ghost use mathlib.Core.Bool.{true};
+ghost use mathlib.Core.Bool.{true, cond};
 ghost use Prim.Native.Nat.{_+_, _*_};
 ghost use lib.ListN.{length};
+ghost use Rattle.laws.specs.Table.{table};
+ghost use Rattle.laws.specs.Least.{lower};
 ghost use Rattle.limits.specs.Size.{within};
-ghost use Rattle.plane.specs.Dart.{points, slots};
+ghost use Rattle.plane.specs.Dart.{mark, points, slots};
 ghost use Rattle.paper.specs.Level.{tops};
-ghost use Rattle.paper.specs.Enclosure.{parents};
-ghost use Rattle.paper.specs.Joining.{at, on, smoothed, closes, joined};
+ghost use Rattle.paper.specs.Enclosure.{parent};
+ghost use Rattle.paper.specs.Joining.{at, on, smoothed, closed, joined};
 ghost use Rattle.paper.specs.Refusal.{cleared};
 ghost use Rattle.lengths.specs.Given.{tables, works};
 ghost use Rattle.removal.specs.Links.{links};
 ghost use Rattle.joining.specs.Apply.{Ready};
 
-// Steps 3 to 5 from the lines that remain and their sides: points go, closed curves move to their anchors, parents are
-// found. Top is work.
-fn settle(
+// Steps 3 and 4 at level 3: points go, and closed curves move to their anchors. Before has entries for the lines before the
+// join, lines for those that remain; the tops of their pieces are left in top.
+fn settle_curves(
     width: u16,
     height: u16,
+    before: &[u16],
     lines: &[u16],
-    side: &[u16],
     next: &mut [u16],
     other: &mut [u16],
-    parent: &mut [u16],
     top: &mut [u16],
 )
     requires { ⌜
-        (within width height ≡ true) × (length (now side) ≡ slots width height) ×
-        (length (now parent) ≡ width * height + 1) × (length (now top) ≡ points width height)
+        (within width height ≡ true) × (length (now lines) ≡ slots width height) ×
+        (length (now top) ≡ points width height)
         ⌝ }
     ensures { λ _. ⌜
         (links (now (next .exit)) (now (other .exit)) ≡
-        closes (on (now (lines .entry))) (tops width height (on (now (side .entry)))) (points width height) 0
+        closed width height (on (now (lines .entry)))
         (smoothed width height (links (now (next .entry)) (now (other .entry))))) ×
-        (now (parent .exit) ≡ parents width height (on (now (side .entry))) (at (now (side .entry))))
+        (now (top .exit) ≡ tops width height (on (now (lines .entry))))
         ⌝ }
 {
-    points::top_points(width, height, side, top);
-    smooth::smooth(width, height, next, other);
-    close::close(width, height, lines, top, next, other);
-    parent::find_parents(width, height, side, top, parent);
+    points::top_points(width, height, lines, top);
+    let outcomes = turn::point_table();
+    smooth::smooth(width, height, &outcomes, before, next, other);
+    close::close(width, height, &outcomes, before, lines, top, next, other);
+}
+
+// Steps 3 to 5 from the lines that remain and the sides before the join: curves are settled, the names a and b become the
+// smaller, parents are found. Top is work.
+fn settle(
+    width: u16,
+    height: u16,
+    a: u16,
+    b: u16,
+    lines: &[u16],
+    side: &mut [u16],
+    next: &mut [u16],
+    other: &mut [u16],
+    parents: &mut [u16],
+    top: &mut [u16],
+)
+    requires { ⌜
+        (within width height ≡ true) × (length (now lines) ≡ slots width height) ×
+        (length (now side) ≡ slots width height) × (length (now parents) ≡ width * height + 1) ×
+        (length (now top) ≡ points width height)
+        ⌝ }
+    ensures { λ _. ⌜
+        (links (now (next .exit)) (now (other .exit)) ≡
+        closed width height (on (now (lines .entry)))
+        (smoothed width height (links (now (next .entry)) (now (other .entry))))) ×
+        (now (side .exit) ≡
+        table (length (now (side .entry)))
+        (λ d. cond (on (now (lines .entry)) d) (lower a b (at (now (side .entry)) d)) mark)) ×
+        (now (parents .exit) ≡
+        table (width * height + 1)
+        (parent width (on (now (side .exit))) (at (now (side .exit))) (tops width height (on (now (lines .entry))))))
+        ⌝ }
+{
+    settle_curves(width, height, side, lines, next, other, top);
+    side::lower_sides(a, b, lines, side);
+    parent::find_parents(width, height, side, top, parents);
 }
 
 // Joining of the regions a and b by the removal rule, in the five tables of a drawing. The work tables are left with
@@ -84,38 +122,15 @@ pub fn apply(
         ⌝ }
 {
     let first = lists::list_darts(side1, a, b, work_d);
-    drop::drop_plain_lines(
-        width,
-        height,
-        a,
-        b,
-        side1,
-        first,
-        work_d,
-        next1,
-        work_a,
-        work_b,
-        work_c,
-    );
+    shared::remove_plain_shared(width, height, side1, a, b, first, work_d, next1, work_a);
     let first3 = lists::narrow(next3, first, work_d);
-    drop::drop_lines(
-        width,
-        height,
-        a,
-        b,
-        side1,
-        first3,
-        work_d,
-        next3,
-        other3,
-        work_b,
-        work_c,
-    );
-    side::lower_sides(a, b, next1, side1);
+    shared::remove_shared(width, height, side1, a, b, first3, work_d, next3, other3);
     let n = ((width + 1) * (height + 1)) as usize;
     settle(
         width,
         height,
+        a,
+        b,
         next1,
         side1,
         next3,

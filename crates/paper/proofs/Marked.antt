@@ -5,11 +5,13 @@
 --   ones t          == the darts that a table of links has, in order
 --   read t ds       == the entries of a table at some places
 --   refusal ..      == the number of joining a with b in the drawing of a sheet
+--   hanging w h l   == the points that have exactly one line of the links l
+--   Case            == a sheet of a size, and two of its regions
 use mathlib.Core.Path.{_≡_, refl, ap₂}
 use mathlib.Core.Bool.{Bool, true, false, _&&_}
-use mathlib.Core.List.{List, [], _∷_, map}
+use mathlib.Core.List.{List, [], _∷_, _++_, map}
 use Prim.Native.Nat.{ℕ, zero, suc}
-use lib.Dec.{ltb}
+use lib.Dec.{eqb, ltb}
 use Rattle.laws.specs.Table.{listed, table, number, count, some}
 use Rattle.laws.specs.Least.{lower, tie, ties, least}
 use Rattle.laws.specs.Run.{run}
@@ -21,7 +23,7 @@ use Rattle.paper.specs.Name.{label, west, north, names, named, cells}
 use Rattle.paper.specs.Level.{side, border, mask, next, plain, last, along, big, bent, tops, anchor, kept2, kept3, among, level, marked}
 use Rattle.paper.specs.Enclosure.{first, parent, parents, above, depth, holes}
 use Rattle.paper.specs.Drawing.{Tables, drawn, drawing, fresh, recover, recovered, alike, same, judged}
-use Rattle.paper.specs.Joining.{at, on, between, shared, chase, removed, hanging, prune, pruned, low, high, spliced, smooth, smooths, smoothed, moved, close, closes, closed, joined}
+use Rattle.paper.specs.Joining.{Links, at, on, between, shared, chase, removed, rest1, rest3, low, high, spliced, smooth, smooths, smoothed, moved, close, closes, closed, joined}
 use Rattle.paper.specs.Refusal.{sized, cleared, outcome, levelRefusal, levelTables, levelled, five, stated, drawRefusal, mapped, used, adjoin, joinRefusal, merged, countRefusal, deepened, holed}
 use Rattle.laws.proofs.Test.{and-left, and-right}
 use Rattle.paper.proofs.Alike.{alike-iff}
@@ -84,6 +86,10 @@ p8 = 65 ∷ 67 ∷ 65 ∷ 65 ∷ 66 ∷ 65 ∷ 65 ∷ 65 ∷ 65 ∷ []
 
 row : List ℕ
 row = 65 ∷ 66 ∷ 65 ∷ []
+
+-- two regions that share two lines in a row
+halves : List ℕ
+halves = 65 ∷ 66 ∷ 65 ∷ 66 ∷ []
 
 accepted : ℕ → ℕ → Tables → List ℕ
 accepted w h t = number (judged w h t) ∷ []
@@ -154,10 +160,43 @@ beside-claims =
     ∷ record { computed = map (holes ((drawing 3 3 p5) .parent)) (0 ∷ 1 ∷ 5 ∷ []); stated = 1 ∷ 1 ∷ 0 ∷ [] }
     ∷ []
 
+-- After step 1 no point has exactly one line, at level 1 and at level 3: the joins of the cases, and one more.
+record Case : Type 0 where
+  w : ℕ
+  h : ℕ
+  sheet : List ℕ
+  a : ℕ
+  b : ℕ
+
+joins : List Case
+joins =
+    record { w = 2; h = 1; sheet = p2; a = 1; b = 2 }
+    ∷ record { w = 3; h = 3; sheet = p8; a = 1; b = 2 }
+    ∷ record { w = 3; h = 1; sheet = row; a = 1; b = 2 }
+    ∷ record { w = 2; h = 2; sheet = halves; a = 1; b = 2 }
+    ∷ []
+
+hanging : ℕ → ℕ → Links → List ℕ
+hanging w h l = picked (λ p. eqb (degree (mask (on (l .next)) p)) 1) 0 (points w h)
+
+hanging-ends : Case → List ℕ
+hanging-ends c =
+    let t = drawing (c .w) (c .h) (c .sheet) in
+    hanging (c .w) (c .h) (rest1 (c .w) (c .h) t (c .a) (c .b))
+    ++ hanging (c .w) (c .h) (rest3 (c .w) (c .h) t (c .a) (c .b))
+
+none : List Case → Bool
+none [] = true
+none (c ∷ cs) = alike (hanging-ends c) [] && none cs
+
 -- opens every definition that the claims compute with
 opened : Unit {0}
-unfolding hold row accepted beside-claims darts picked ones read refusal p1 p2 p3 p5 p6 p7 p8 claims label west north names lower tie ties least table listed some count run widest within mark points slots dart point direction beside far turned reversal stays line bits half has corner right left parts present degree inline named cells turn side border mask next plain last along big bent tops anchor kept2 kept3 among level marked first parent parents above depth holes drawn drawing fresh recover recovered alike same judged at on between shared chase removed hanging prune pruned low high spliced smooth smooths smoothed moved close closes closed joined sized cleared outcome levelRefusal levelTables levelled five stated drawRefusal mapped used adjoin joinRefusal merged countRefusal deepened holed
+unfolding hold row halves accepted joins hanging hanging-ends none beside-claims darts picked ones read refusal p1 p2 p3 p5 p6 p7 p8 claims label west north names lower tie ties least table listed some count run widest within mark points slots dart point direction beside far turned reversal stays line bits half has corner right left parts present degree inline named cells turn side border mask next plain last along big bent tops anchor kept2 kept3 among level marked first parent parents above depth holes drawn drawing fresh recover recovered alike same judged at on between shared chase removed rest1 rest3 low high spliced smooth smooths smoothed moved close closes closed joined sized cleared outcome levelRefusal levelTables levelled five stated drawRefusal mapped used adjoin joinRefusal merged countRefusal deepened holed
 opened = tt
+
+no-hanging-ends : none joins ≡ true
+unfolding opened
+no-hanging-ends = refl
 
 claims-hold : hold claims ≡ true
 unfolding opened

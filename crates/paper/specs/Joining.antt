@@ -1,20 +1,21 @@
 -- The removal rule (the paper, "A drawing, and joining in it"). It reads the five tables alone.
 --   Links           == next and other of a level, as tables
 --   between a b x y == x and y are a and b, in either order
---   removed ..      == step 1: the links without the darts that are taken
---   pruned ..       == step 2: the links without hanging ends
+--   removed ..      == the links without the darts that are taken
+--   rest1, rest3    == step 1: the links of level 1, and of level 3, without the darts of sides a and b
 --   smoothed ..     == step 3: the links without the points that have two darts of two different edges
 --   closed ..       == step 4: each closed curve's darts moved to its anchor
---   joined w h t a b == the five tables after all five steps
+--   joined w h t a b == the five tables after steps 1, 3, 4 and 5
+-- Step 2 removed hanging ends; step 1 leaves none (`no-hanging-line`, `no-hanging-curve` in `theory`), so request T-07 took it out.
 use mathlib.Core.Bool.{Bool, true, false, cond, not, _&&_, _||_}
 use mathlib.Core.List.{List}
 use Prim.Native.Nat.{ℕ, zero, suc}
 use lib.Dec.{eqb}
 use lib.ListN.{getD, set}
-use Rattle.laws.specs.Table.{table, some}
+use Rattle.laws.specs.Table.{table}
 use Rattle.laws.specs.Least.{lower}
 use Rattle.laws.specs.Run.{run}
-use Rattle.plane.specs.Dart.{mark, points, slots, dart, point, reversal}
+use Rattle.plane.specs.Dart.{mark, points, slots, dart, reversal}
 use Rattle.plane.specs.Point.{has, degree}
 use Rattle.paper.specs.Level.{mask, marked, tops}
 use Rattle.paper.specs.Enclosure.{parents}
@@ -50,20 +51,14 @@ removed w h l taken =
       other = marked w h rest (at (l .other));
     }
 
--- dart d leaves a point that no other dart leaves
-unfoldable pub hanging : Links → ℕ → Bool
-hanging l d = on (l .next) d && eqb (degree (mask (on (l .next)) (point d))) 1
+unfoldable pub rest1 : ℕ → ℕ → Tables → ℕ → ℕ → Links
+rest1 w h t a b =
+    let back = table (slots w h) (reversal w) in
+    removed w h (record { next = t .next1; other = back }) (shared (t .side1) (at back) a b)
 
-unfoldable pub prune : ℕ → ℕ → ℕ → Links → Links
-prune zero w h l = l
-prune (suc n) w h l =
-    elim (some (slots w h) (hanging l)) [
-      | true ↦ prune n w h (removed w h l (λ d. hanging l d || hanging l (at (l .other) d)))
-      | false ↦ l
-    ]
-
-unfoldable pub pruned : ℕ → ℕ → Links → Links
-pruned w h l = prune (slots w h) w h l
+unfoldable pub rest3 : ℕ → ℕ → Tables → ℕ → ℕ → Links
+rest3 w h t a b =
+    removed w h (record { next = t .next3; other = t .other3 }) (shared (t .side1) (at (t .other3)) a b)
 
 -- the first and the last direction of a mask
 unfoldable pub low : ℕ → ℕ
@@ -127,14 +122,9 @@ closed w h lines l = let t = tops w h lines in closes lines t (points w h) 0 l
 
 unfoldable pub joined : ℕ → ℕ → Tables → ℕ → ℕ → Tables
 joined w h t a b =
-    let s = t .side1 in
-    let back = table (slots w h) (reversal w) in
-    let l1 : Links = record { next = t .next1; other = back } in
-    let l3 : Links = record { next = t .next3; other = t .other3 } in
-    let k1 = pruned w h (removed w h l1 (shared s (at back) a b)) in
-    let k3 = pruned w h (removed w h l3 (shared s (at (t .other3)) a b)) in
-    let c3 = closed w h (on (k1 .next)) (smoothed w h k3) in
-    let s1 = marked w h (on (k1 .next)) (λ d. lower a b (at s d)) in
+    let k1 = rest1 w h t a b in
+    let c3 = closed w h (on (k1 .next)) (smoothed w h (rest3 w h t a b)) in
+    let s1 = marked w h (on (k1 .next)) (λ d. lower a b (at (t .side1) d)) in
     record {
       next1 = k1 .next;
       side1 = s1;

@@ -1,6 +1,7 @@
 -- What is promised of joins (the paper, "A drawing, and joining in it", and the third demand).
 --   Joinable w h t a b == a and b are two different regions of the drawing t, neither the outside, that share a line
 --   Sitting w h t u    == joins, one after another, lead from the tables t to the tables u
+--   Midway w h t a b l == the links l are those of level 3 when step 3, or step 4 after it, has treated some points
 --   Away t a b p       == no level 3 curve of t that the join of a and b removes has an end at the point p
 --   Untouched t a b d  == neither end of the level 3 curve of dart d touches a removed curve
 --   Keeps t u d        == dart d and its other have the same next and other in t and in u
@@ -9,8 +10,9 @@ use mathlib.Core.Bool.{true}
 use mathlib.Core.Logic.{_≢_}
 use Prim.Native.Nat.{ℕ}
 use Rattle.plane.specs.Dart.{point}
+use Rattle.paper.specs.Level.{tops}
 use Rattle.paper.specs.Drawing.{Tables}
-use Rattle.paper.specs.Joining.{at, on, shared, joined}
+use Rattle.paper.specs.Joining.{Links, at, on, shared, rest1, rest3, smooths, smoothed, closes, joined}
 use Rattle.paper.specs.Refusal.{used, adjoin}
 
 pub record Joinable (w h : ℕ) (t : Tables) (a b : ℕ) : Type 0 where
@@ -22,6 +24,13 @@ pub record Joinable (w h : ℕ) (t : Tables) (a b : ℕ) : Type 0 where
 pub data Sitting (w h : ℕ) : Tables → Tables → Type 0 where
   done : {t : Tables} → Sitting w h t t
   then : {t u : Tables} (a b : ℕ) → Joinable w h t a b → Sitting w h (joined w h t a b) u → Sitting w h t u
+
+pub data Midway (w h : ℕ) (t : Tables) (a b : ℕ) : Links → Type 0 where
+  step3 : (i : ℕ) → Midway w h t a b (smooths i 0 (rest3 w h t a b))
+  step4 : (i : ℕ)
+      → Midway w h t a b
+      (closes (on (rest1 w h t a b .next)) (tops w h (on (rest1 w h t a b .next))) i 0
+      (smoothed w h (rest3 w h t a b)))
 
 abbrev pub Away : Tables → ℕ → ℕ → ℕ → Type 0
 Away t a b p = (g : ℕ) → on (t .next3) g ≡ true → shared (t .side1) (at (t .other3)) a b g ≡ true → point g ≢ p

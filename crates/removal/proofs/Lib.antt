@@ -1,4 +1,2 @@
 pub mod Going
-pub mod Pruning
 pub mod Reversals
-pub mod Taking

@@ -1,2 +1,1 @@
 pub mod Links
-pub mod Taken

@@ -1,4 +1,2 @@
-// What the steps of the removal rule need on any links: reversals, and step 2, hanging ends.
+// What the steps of the removal rule share: links in two tables, and reversals.
 pub mod back;
-pub mod prune;
-mod remove;

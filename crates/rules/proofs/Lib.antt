@@ -1,3 +1,3 @@
+pub mod Becoming
 mod Entry
-pub mod Kind
 pub mod Turns

@@ -4,10 +4,12 @@
 --   becomes m t     == what a point with the lines m becomes when the lines t are taken
 --   turns, outcomes == the two rules over their whole tables: at 4 m + k and at 16 m + t
 --   turnOf, becomesOf == the rules for any numbers: 4 where one is no mask or no direction
+--   pointTable      == the point table
+--   becoming m l    == what a point becomes that had the lines m and has the lines l left
 --   kinding         == what the point table says of each mask where no line is taken
 use mathlib.Core.Bool.{Bool, cond, not, _&&_, _||_}
 use mathlib.Core.List.{List}
-use Prim.Native.Nat.{ℕ, _/_, _%_}
+use Prim.Native.Nat.{ℕ, _+_, _/_, _%_}
 use lib.Dec.{eqb, ltb}
 use Rattle.laws.specs.Table.{table}
 use Rattle.plane.specs.Dart.{turned}
@@ -45,6 +47,12 @@ turnOf m k = cond (ltb m 16 && ltb k 4) (turn m k) 4
 
 unfoldable pub becomesOf : ℕ → ℕ → ℕ
 becomesOf m t = cond (ltb m 16 && ltb t 16) (becomes m t) 4
+
+unfoldable pub pointTable : List ℕ
+pointTable = table 256 outcomes
+
+unfoldable pub becoming : ℕ → ℕ → ℕ
+becoming m l = let taken = without m l in becomesOf (l + taken) taken
 
 unfoldable pub kinding : List ℕ
 kinding = table 16 (λ m. becomesOf m 0)

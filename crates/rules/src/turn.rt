@@ -1,5 +1,5 @@
 ghost use mathlib.Core.Path.{_≡_};
-ghost use Rattle.rules.specs.Turn.{turnOf, becomesOf, kinding};
+ghost use Rattle.rules.specs.Turn.{turnOf, becomesOf, pointTable, kinding};
 
 // No direction: what next_line answers where no line is present.
 pub const NONE: u16 = 4;
@@ -363,6 +363,13 @@ pub fn next_line(present: u16, heading: u16) -> NextLine
     }
 }
 
+// The point table. A constant table is built anew where it is named, so who reads it at many points names it once.
+pub fn point_table() -> [u16; 256]
+    ensures { λ r. ⌜ r ≡ pointTable ⌝ }
+{
+    OUTCOMES
+}
+
 // What a point with the lines present becomes when the lines taken go; 4 also where a number is no mask.
 pub fn becomes(present: u16, taken: u16) -> u16
     ensures { λ r. ⌜ r ≡ becomesOf present taken ⌝ }
@@ -373,11 +380,12 @@ pub fn becomes(present: u16, taken: u16) -> u16
     if 15 < taken {
         return IMPOSSIBLE;
     }
-    OUTCOMES[(16 * present + taken) as usize]
+    let table = point_table();
+    table[(16 * present + taken) as usize]
 }
 
 // What the point table says of each mask where no line is taken. It is written out, since a table is built anew where it
-// is named, and this one is named in every join.
+// is named, and a drawing names this one at each pass over its points.
 pub fn kinds() -> [u16; 16]
     ensures { λ r. ⌜ r ≡ kinding ⌝ }
 {

@@ -17,16 +17,13 @@ use Rattle.laws.proofs.Test.{clash}
 use Rattle.plane.specs.Dart.{mark, slots}
 use Rattle.paper.specs.Level.{marked}
 use Rattle.paper.specs.Joining.{Links, at, on, shared, chase, removed}
-use Rattle.theory.proofs.Marks.{at-below, at-past}
 use Rattle.table.specs.Trim.{trimmed}
 use Rattle.table.proofs.Entries.{at-in, at-entry, at-out, on-mark}
 use Rattle.table.proofs.Half.{Half, half-here}
 use Rattle.removal.specs.Links.{links}
-use Rattle.removal.specs.Taken.{leaping}
-use Rattle.removal.proofs.Taking.{chases-left, chase-hops}
 use Rattle.lists.specs.Listed.{bounds, Bounded}
-use Rattle.chasing.specs.Led.{led}
-use Rattle.chasing.proofs.Chasing.{leaps-on, leaps-not, chase-four, led-keeps, led-past}
+use Rattle.chasing.specs.Led.{leaping, led}
+use Rattle.chasing.proofs.Chasing.{leaps-on, leaps-not, chase-still, chase-leaps, chase-four, led-keeps, led-past}
 use Rattle.sharing.specs.Mapped.{Mapped}
 use Rattle.sharing.proofs.Sharing.{shared-past, away-apart, shared-other}
 
@@ -64,11 +61,6 @@ pub unlink-here : (s : List ℕ) (o : ℕ → ℕ) (a b d x y r : ℕ) → x ≡
     → r ≡ cond (shared s o a b d) mark x
 unlink-here s o a b d x y r e f = f ∙ rw e
 
--- a dart that stays
-chase-still : (l : Links) (f : ℕ → Bool) (d : ℕ) → f d ≡ false → chase l f d ≡ d
-unfolding chase
-chase-still l f d e = chases-left l f 4 d e
-
 -- In a map.
 module _ (s n o : List ℕ) (a b : ℕ) (p : a < mark) (q : b < mark) (fit : length s ≤ mark)
     (m : Mapped s n o) where
@@ -90,7 +82,7 @@ module _ (s n o : List ℕ) (a b : ℕ) (p : a < mark) (q : b < mark) (fit : len
       go false e = rw (← (leaps-not l gone d e)) h
 
   chase-on : (d : ℕ) → on n d ≡ true → on n (chase l gone d) ≡ true
-  chase-on d h = rw (chase-hops l gone d) (leap-on _ (leap-on _ (leap-on _ (leap-on d h))))
+  chase-on d h = rw (chase-leaps l gone d) (leap-on _ (leap-on _ (leap-on _ (leap-on d h))))
 
   -- a dart with neither side keeps its next
   bounds-next : (d : ℕ) → on n d ≡ true → bounds s a b (at n d) ≡ bounds s a b d
@@ -181,7 +173,7 @@ module _ (s n o : List ℕ) (a b : ℕ) (p : a < mark) (q : b < mark) (fit : len
         let g = leap-on y f in
         sym (chase-four k gone d x y z (leaping l gone z) (sym (leap-same d h)) (sym (leap-same x e))
         (sym (leap-same y f)) (sym (leap-same z g)))
-        ∙ sym (chase-hops l gone d)
+        ∙ sym (chase-leaps l gone d)
 
     pub led-same : i < length n → led s k a b i ≡ led s l a b i
     unfolding led
@@ -226,44 +218,23 @@ module _ (s n o : List ℕ) (a b : ℕ) (p : a < mark) (q : b < mark) (fit : len
         go false true e = refl
         go false false e = rw (off-mark n d e) (chase-still l gone mark mark-stays)
 
-    pub removed-steps : slots w h ≤ mark → length o ≡ slots w h → (i j : ℕ) (n₁ n₂ o₂ : List ℕ) → i ≡ slots w h
-        → j ≡ slots w h → n₁ ≡ table i (led s l a b) → n₂ ≡ table j (λ d. cond (gone d) mark (at n₁ d))
+    pub removed-nexts : (i j : ℕ) (n₁ n₂ : List ℕ) → i ≡ slots w h → j ≡ slots w h → n₁ ≡ table i (led s l a b)
+        → n₂ ≡ table j (λ d. cond (gone d) mark (at n₁ d)) → n₂ ≡ removed w h l gone .next
+    unfolding removed marked at rest
+    removed-nexts i j n₁ n₂ u v e f =
+        f ∙ rw (v, e, u)
+        (table-agree (slots w h) _ left
+        (λ d c. ap (cond (gone d) mark) (getD-table (slots w h) (led s l a b) d mark c) ∙ led-left d))
+
+    pub removed-others : slots w h ≤ mark → length o ≡ slots w h → (n₂ o₂ : List ℕ) → n₂ ≡ removed w h l gone .next
         → o₂ ≡ trimmed n₂ o → links n₂ o₂ ≡ removed w h l gone
     unfolding removed marked trimmed on at rest
-    removed-steps room longs i j n₁ n₂ o₂ u v e f g = rw (nexts, others)
+    removed-others room longs n₂ o₂ e f = rw (e, others)
       where
-        nexts : n₂ ≡ table (slots w h) left
-        nexts =
-            f ∙ rw (v, e, u)
-            (table-agree (slots w h) _ left
-            (λ d c. ap (cond (gone d) mark) (getD-table (slots w h) (led s l a b) d mark c) ∙ led-left d))
-
         others : o₂ ≡ table (slots w h) (λ d. cond (rest d) (at o d) mark)
         others =
-            g ∙ rw (longs, nexts)
+            f ∙ rw (longs, e)
             (table-agree (slots w h) _ _
             (λ d c.
             ap (λ z. cond z (at o d) mark)
             (ap (λ x. not (eqb x mark)) (getD-table (slots w h) left d mark c) ∙ left-on room d)))
-
-    -- a dart with no next gets none
-    pub off-left : (d : ℕ) → on n d ≡ false → on (removed w h l gone .next) d ≡ false
-    unfolding removed rest
-    off-left d e = on-mark _ d (go (decLt d (slots w h)))
-      where
-        go : Dec (d < slots w h) → at (removed w h l gone .next) d ≡ mark
-        go (yes c) = at-below w h rest (λ e. chase l gone (at n e)) d c ∙ rw e
-        go (no c) = at-past w h rest (λ e. chase l gone (at n e)) d (omega arith)
-
-    -- a dart with neither side has the next that it had
-    pub away-left : (d : ℕ) → bounds s a b d ≡ false → at (removed w h l gone .next) d ≡ at n d
-    unfolding removed rest
-    away-left d e = go (decLt d (slots w h))
-      where
-        value : left d ≡ at n d
-        value = sym (led-left d) ∙ rw (away-apart s (at o) a b d e) (away-led d e)
-
-        go : Dec (d < slots w h) → at (removed w h l gone .next) d ≡ at n d
-        go (yes c) = at-below w h rest (λ e. chase l gone (at n e)) d c ∙ value
-        go (no c) =
-            at-past w h rest (λ e. chase l gone (at n e)) d (omega arith) ∙ at-out n d (omega arith)

@@ -1,12 +1,10 @@
 -- Links that are those of a map.
 --   Mapped s n o    == of the darts that have a next by the table n: next and other by the table o are such darts again, others
---                      come in pairs, next keeps the side by the table s, and no point is left by one of them alone
+--                      come in pairs, and next keeps the side by the table s
 use mathlib.Core.Path.{_≡_}
 use mathlib.Core.Bool.{true}
 use mathlib.Core.List.{List}
 use Prim.Native.Nat.{ℕ}
-use Rattle.plane.specs.Point.{degree}
-use Rattle.paper.specs.Level.{mask}
 use Rattle.paper.specs.Joining.{at, on}
 
 pub record Mapped (s n o : List ℕ) : Type 0 where
@@ -14,4 +12,3 @@ pub record Mapped (s n o : List ℕ) : Type 0 where
   pub across : (d : ℕ) → on n d ≡ true → on n (at o d) ≡ true
   pub pairs : (d : ℕ) → on n d ≡ true → at o (at o d) ≡ d
   pub keeps : (d : ℕ) → on n d ≡ true → at s (at n d) ≡ at s d
-  pub alone : (p : ℕ) → degree (mask (on n) p) ≡ 1 → ⊥

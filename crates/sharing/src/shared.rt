@@ -1,10 +1,12 @@
+use removal::back;
 use table::entry;
 ghost use mathlib.Core.Path.{_≡_};
-ghost use mathlib.Core.Bool.{cond};
+ghost use mathlib.Core.Bool.{true, cond};
 ghost use Prim.Native.Nat.{_≤_, _<_};
 ghost use lib.ListN.{length};
 ghost use Rattle.laws.specs.Table.{table};
-ghost use Rattle.plane.specs.Dart.{mark, slots};
+ghost use Rattle.limits.specs.Size.{within};
+ghost use Rattle.plane.specs.Dart.{mark, slots, reversal};
 ghost use Rattle.paper.specs.Joining.{at, shared, removed};
 ghost use Rattle.removal.specs.Links.{links};
 ghost use Rattle.lists.specs.Listed.{Bounded};
@@ -54,6 +56,35 @@ fn unlink(side: &[u16], other: &[u16], a: u16, b: u16, first: u16, list: &[u16],
     }
 }
 
+// Step 1, the next: the darts with the sides a and b have none any more, and the others' next leads past them.
+fn remove_nexts(
+    width: u16,
+    height: u16,
+    side: &[u16],
+    other: &[u16],
+    a: u16,
+    b: u16,
+    first: u16,
+    list: &[u16],
+    next: &mut [u16],
+)
+    requires { ⌜
+        (slots width height ≤ mark) × (a < mark) × (b < mark) × (length (now side) ≡ slots width height) ×
+        (length (now list) ≡ slots width height) × (length (now next) ≡ slots width height) ×
+        Bounded (now side) (now next) a b (slots width height) first (now list) ×
+        Mapped (now side) (now next) (now other)
+        ⌝ }
+    ensures { λ _. ⌜
+        now (next .exit) ≡
+        removed width height (links (now (next .entry)) (now (other .entry)))
+        (shared (now (side .entry)) (at (now (other .entry))) a b)
+        .next
+        ⌝ }
+{
+    lead(side, other, a, b, first, list, next);
+    unlink(side, other, a, b, first, list, next);
+}
+
 // Step 1 at any level: the darts with the sides a and b go. The list has the darts with side a or b that have a next.
 pub fn remove_shared(
     width: u16,
@@ -79,7 +110,36 @@ pub fn remove_shared(
         (shared (now (side .entry)) (at (now (other .entry))) a b)
         ⌝ }
 {
-    lead(side, other, a, b, first, list, next);
-    unlink(side, other, a, b, first, list, next);
+    remove_nexts(width, height, side, other, a, b, first, list, next);
     entry::trim(next, other);
+}
+
+// Step 1 at level 1, where the other of a dart is its reversal. Back is work: it is left with the reversals.
+pub fn remove_plain_shared(
+    width: u16,
+    height: u16,
+    side: &[u16],
+    a: u16,
+    b: u16,
+    first: u16,
+    list: &[u16],
+    next: &mut [u16],
+    back: &mut [u16],
+)
+    requires { ⌜
+        (within width height ≡ true) × (a < mark) × (b < mark) × (length (now side) ≡ slots width height) ×
+        (length (now list) ≡ slots width height) × (length (now next) ≡ slots width height) ×
+        (length (now back) ≡ slots width height) ×
+        Bounded (now side) (now next) a b (slots width height) first (now list) ×
+        Mapped (now side) (now next) (table (slots width height) (reversal width))
+        ⌝ }
+    ensures { λ _. ⌜
+        now (next .exit) ≡
+        removed width height (links (now (next .entry)) (table (slots width height) (reversal width)))
+        (shared (now (side .entry)) (at (table (slots width height) (reversal width))) a b)
+        .next
+        ⌝ }
+{
+    back::fill_reversals(width, height, back);
+    remove_nexts(width, height, side, back, a, b, first, list, next);
 }

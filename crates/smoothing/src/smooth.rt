@@ -1,5 +1,4 @@
 use plane::dart;
-use rules::turn;
 use table::entry;
 ghost use mathlib.Core.Path.{_≡_};
 ghost use mathlib.Core.Bool.{true};
@@ -7,7 +6,7 @@ ghost use mathlib.Core.List.{List};
 ghost use Prim.Native.Nat.{ℕ, _<_};
 ghost use Rattle.limits.specs.Size.{within};
 ghost use Rattle.plane.specs.Dart.{mark, dart};
-ghost use Rattle.rules.specs.Turn.{kinding};
+ghost use Rattle.rules.specs.Turn.{pointTable};
 ghost use Rattle.paper.specs.Joining.{spliced, smooth, smoothed};
 ghost use Rattle.removal.specs.Links.{links, splice};
 
@@ -48,33 +47,40 @@ fn smooth_edge(next: &mut [u16], other: &mut [u16], u: u16, v: u16)
     splice_other(other, u, v, x, y);
 }
 
-// A point goes where two darts of two different edges alone leave it.
-fn smooth_point(kinds: &[u16; 16], next: &mut [u16], other: &mut [u16], point: u16)
-    requires { ⌜ (now kinds ≡ kinding) × (dart point 3 < mark) ⌝ }
+// A point goes where two darts of two different edges alone leave it. Before has entries for the lines before the join.
+fn smooth_point(outcomes: &[u16; 256], before: &[u16], next: &mut [u16], other: &mut [u16], point: u16)
+    requires { ⌜ (now outcomes ≡ pointTable) × (dart point 3 < mark) ⌝ }
     ensures { λ _. ⌜
         links (now (next .exit)) (now (other .exit)) ≡ smooth (links (now (next .entry)) (now (other .entry))) point
         ⌝ }
 {
-    if !ends::two(kinds, next, point) {
+    if !ends::two(outcomes, before, next, point) {
         return;
     }
     let seen = ends::seen(next, point);
     smooth_edge(next, other, seen.first, seen.last);
 }
 
-// Step 3: the points that two darts of two different edges alone leave go, one after another.
-pub fn smooth(width: u16, height: u16, next: &mut [u16], other: &mut [u16])
-    requires { ⌜ within width height ≡ true ⌝ }
+// Step 3: the points that two darts of two different edges alone leave go, one after another. Before has entries for the
+// lines before the join.
+pub fn smooth(
+    width: u16,
+    height: u16,
+    outcomes: &[u16; 256],
+    before: &[u16],
+    next: &mut [u16],
+    other: &mut [u16],
+)
+    requires { ⌜ (within width height ≡ true) × (now outcomes ≡ pointTable) ⌝ }
     ensures { λ _. ⌜
         links (now (next .exit)) (now (other .exit)) ≡
         smoothed width height (links (now (next .entry)) (now (other .entry)))
         ⌝ }
 {
-    let kinds = turn::kinds();
     let n = (width + 1) * (height + 1);
     let mut p: u16 = 0;
     while p < n {
-        smooth_point(&kinds, next, other, p);
+        smooth_point(outcomes, before, next, other, p);
         p += 1;
     }
 }

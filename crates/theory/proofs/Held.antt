@@ -92,7 +92,7 @@ small-degree {x = x} s p d o q b =
     two-of g a c n = omega arith
 
 module _ {w h : ℕ} {x : Map} (s : Plane w h x) (k : ℕ → Bool) where
-  level-was : (d : ℕ) → level x k .on d ≡ true → x .on d ≡ true
+  pub level-was : (d : ℕ) → level x k .on d ≡ true → x .on d ≡ true
   unfolding level
   level-was d e = and-left (x .on d) (k (x .pt d)) e
 

@@ -28,12 +28,11 @@ use Rattle.plane.proofs.Points.{degree-bits}
 use Rattle.paper.specs.Level.{side, border, mask, next, plain, level, big, tops, marked}
 use Rattle.paper.specs.Enclosure.{first, parent, parents}
 use Rattle.paper.specs.Drawing.{Tables, drawn}
-use Rattle.paper.specs.Joining.{Links, at, on, shared, removed, pruned, smoothed, closed, joined}
+use Rattle.paper.specs.Joining.{Links, at, on, shared, removed, rest1, rest3, smooths, smoothed, closes, closed, joined}
 use Rattle.theory.proofs.Sheet.{lines-map, sheet, sheet-chart, sheet-few, sheet-colours, border-alone, border-back, border-below, border-lines}
 use Rattle.theory.proofs.Fewer.{fewer-border, fewer-next, fewer-lines, fewer-side}
 use Rattle.theory.proofs.Marks.{same-at, marked-agree, on-marked, next-small}
 use Rattle.theory.proofs.Removed.{on-links, removed-lengths, removed-next, removed-other}
-use Rattle.theory.proofs.Pruned.{pruned-none}
 use Rattle.theory.proofs.Held.{Held, on-held, level-alone}
 use Rattle.theory.proofs.Smoothed.{Smooth, smooth-all}
 use Rattle.theory.proofs.Closed.{Close, close-all}
@@ -141,7 +140,7 @@ module _ (w h a b : ℕ) (n : List ℕ) (room : slots w h ≤ mark) (apart : a �
         same-rev = λ d e. refl;
       }
 
-  -- Steps 1 and 2 at level 1.
+  -- Step 1 at level 1.
   abbrev l1 : Links
   l1 = record { next = drawn w h n .next1; other = table (slots w h) (reversal w) }
 
@@ -154,15 +153,12 @@ module _ (w h a b : ℕ) (n : List ℕ) (room : slots w h ≤ mark) (apart : a �
       removed-next (sheet-chart w h n) (sheet-colours w h n) (drawn-reads w h n) room apart d
       ∙ links-agree mark (fewer-alike .same-on) (fewer-alike .same-nx) d
 
-  r1-on : on (r1 .next) ≡ o′
+  pub r1-on : on (r1 .next) ≡ o′
   r1-on = fun-ext (on-links (r1 .next) r1-next (λ d e q. let s = next-small w h o′ (border-lines w h n′) room d e in omega arith))
 
   -- no line is left alone at a point
   pub r1-alone : (p : ℕ) → degree (mask (on (r1 .next)) p) ≡ 1 → ⊥
   r1-alone p e = border-alone w h n′ p (rw r1-on at e)
-
-  r1-pruned : pruned w h r1 ≡ r1
-  r1-pruned = pruned-none w h r1 r1-alone
 
   r1-is : r1 .next ≡ drawn w h n′ .next1
   r1-is =
@@ -170,7 +166,7 @@ module _ (w h a b : ℕ) (n : List ℕ) (room : slots w h ≤ mark) (apart : a �
       (removed-lengths w h l1 (shared (drawn w h n .side1) (at (l1 .other)) a b) .0) (length-next1 w h n′)
       (λ d _. r1-next d ∙ sym (drawn-next1 w h n′ d))
 
-  -- Steps 1 and 2 at level 3.
+  -- Step 1 at level 3.
   loops : Loops m (big (border w h n)) (anchors w h n)
   loops = sheet-loops w h n
 
@@ -213,9 +209,6 @@ module _ (w h a b : ℕ) (n : List ℕ) (room : slots w h ≤ mark) (apart : a �
       level-alone (sheet-plane w h n′) (anchors w h n) p
       (rw (on-held (sheet-plane w h n′) (anchors w h n) room r3-covers r3-held) at e)
 
-  r3-pruned : pruned w h r3 ≡ r3
-  r3-pruned = pruned-none w h r3 r3-alone
-
   -- Step 3.
   pub anchors-above : Above (big o′) (anchors w h n)
   anchors-above =
@@ -228,6 +221,12 @@ module _ (w h a b : ℕ) (n : List ℕ) (room : slots w h ≤ mark) (apart : a �
   start : Smooth w h m′ (anchors w h n) r3 0
   unfolding sheet lines-map
   start = record { held = r3-held; high = anchors-above; covers = r3-covers; looped = looped-start }
+
+  -- after any number of points, the tables hold the links over some points
+  pub smooth-held : (i : ℕ) → (k : ℕ → Bool) × Covers m′ k × Held w h m′ k (smooths i 0 r3)
+  smooth-held i =
+      let (k, f) = smooth-all (sheet-plane w h n′) room i 0 (anchors w h n) r3 start in
+      (k, f .covers, f .held)
 
   near : (d : ℕ) → o′ d ≡ true → point d < points w h
   near = dart-point w h o′ (border-lines w h n′)
@@ -248,6 +247,13 @@ module _ (w h a b : ℕ) (n : List ℕ) (room : slots w h ≤ mark) (apart : a �
           settled = settled-start;
         },
       )
+
+  pub close-held : (i : ℕ) → (k : ℕ → Bool) × Covers m′ k × Held w h m′ k (closes o′ (tops w h o′) i 0 (smoothed w h r3))
+  unfolding s3 sheet lines-map
+  close-held i =
+      let (k, c) = closing in
+      let (k₁, g) = close-all (sheet-plane w h n′) room (tops w h o′) (sheet-tops w h n′) i 0 k s3 c in
+      (k₁, g .loops .covers, g .held)
 
   c3 : Links
   c3 = closed w h o′ s3
@@ -278,14 +284,14 @@ module _ (w h a b : ℕ) (n : List ℕ) (room : slots w h ≤ mark) (apart : a �
       ap (lower a b) (drawn-side1 w h n d (fewer-lines w h n (lower a b) outside d e))
       ∙ sym (fewer-side w h n (lower a b) outside d))
 
-  -- All five steps.
+  -- All steps.
   pub joined-drawn : ((d : ℕ) → side w h n′ d < mark) → joined w h (drawn w h n) a b ≡ drawn w h n′
-  unfolding joined s3 c3 s1
+  unfolding joined rest1 rest3 s3 c3 s1
   joined-drawn small =
       let (nexts, others) = held-is w h n′ c3 c3-held in
       tables-path (joined w h (drawn w h n) a b) (drawn w h n′)
-      (rw r1-pruned r1-is)
-      (rw (r1-pruned, r1-on) s1-is)
-      (rw (r1-pruned, r1-on, r3-pruned) nexts)
-      (rw (r1-pruned, r1-on, r3-pruned) others)
-      (rw (r1-pruned, r1-on, s1-is) (parents-drawn w h n′ small))
+      r1-is
+      (rw r1-on s1-is)
+      (rw r1-on nexts)
+      (rw r1-on others)
+      (rw (r1-on, s1-is) (parents-drawn w h n′ small))

@@ -21,7 +21,6 @@ pub mod Outcome
 pub mod Pair
 pub mod Parity
 pub mod Piece
-pub mod Pruned
 pub mod Removed
 pub mod Round
 pub mod Share

@@ -1,80 +1,37 @@
 -- What step 1 of the removal rule leaves at a point: never one line alone, so no join reads entry 4 of the point table.
 --   rest1, rest3    == the links of level 1, and of level 3, after step 1
---   hanging l d     == dart d leaves a point that no other dart leaves
+--   becomes m t     == the entry of the point table for the lines m, of which the lines t are taken: 4 cannot be
+--   becoming m l    == the entry that is read of a point that had the lines m and has the lines l left
 --   without m t     == the lines of the mask m that are not among the lines t
---   becomes m t     == what a point with the lines m becomes when the lines t are taken: entry 4 is the impossible
---   taken m f d     == both sides of the dart become one
-use mathlib.Core.Path.{_≡_, refl, sym, _∙_, fun-ext}
-use mathlib.Core.Bool.{Bool, true, false, cond, not, _&&_}
+use mathlib.Core.Path.{_≡_, refl, sym, ap, _∙_, fun-ext}
+use mathlib.Core.Bool.{Bool, true, false, not, _&&_}
 use mathlib.Core.Logic.{_≢_}
 use mathlib.Core.List.{List, map}
 use Prim.Native.Nat.{ℕ, _≤_}
 use native.Mathlib.Omega.{arith}
-use lib.Dec.{eqb, ltb, lit≤}
-use borrow.Author.Tests.{eq-eqb, ne-eqb}
 use Rattle.laws.specs.Table.{table}
 use Rattle.laws.specs.Least.{lower}
-use Rattle.laws.proofs.Test.{and-left}
-use Rattle.laws.proofs.Least.{lower-other}
-use Rattle.laws.proofs.Chart.{taken, less}
+use Rattle.laws.proofs.Chart.{Covers, taken, less}
+use Rattle.laws.proofs.Chart as Chart
 use Rattle.plane.specs.Dart.{mark, slots, dart, reversal}
-use Rattle.plane.specs.Point.{has, degree, inline}
-use Rattle.rules.specs.Turn.{without, impossible, kind, becomes}
+use Rattle.plane.specs.Point.{has, degree}
+use Rattle.rules.specs.Turn.{without, becomes, becoming}
 use Rattle.plane.proofs.Points.{bits-same}
 use Rattle.rules.proofs.Turns.{without-none}
+use Rattle.rules.proofs.Becoming.{becoming-four, becoming-taken}
 use Rattle.paper.specs.Name.{names}
-use Rattle.paper.specs.Level.{border, mask}
+use Rattle.paper.specs.Level.{side, border, mask, plain, level}
 use Rattle.paper.specs.Drawing.{Tables, drawn, drawing}
-use Rattle.paper.specs.Joining.{Links, at, on, shared, removed, hanging, pruned, smoothed, closed, joined}
-use Rattle.theory.proofs.Sheet.{lines-map, sheet, sheet-chart, sheet-colours, border-alone, border-lines}
-use Rattle.theory.proofs.Fewer.{fewer-border}
-use Rattle.theory.proofs.Next.{has-mask}
-use Rattle.theory.proofs.Marks.{next-small}
+use Rattle.paper.specs.Joining.{Links, at, on, shared, rest1, rest3}
+use Rattle.paper.specs.Sitting.{Joinable, Midway, step3, step4}
+use Rattle.theory.proofs.Sheet.{lines-map, sheet, sheet-chart, sheet-colours, border-alone, border-below, border-lines}
+use Rattle.theory.proofs.Fewer.{fewer-border, fewer-lines}
+use Rattle.theory.proofs.Next.{mask-below, has-mask}
+use Rattle.theory.proofs.Marks.{next-small, on-marked, names-side-small}
 use Rattle.theory.proofs.Removed.{on-links, gone-taken}
-use Rattle.theory.proofs.Held.{mask-agree}
-use Rattle.theory.proofs.Drawn.{drawn-next1, drawn-reads}
-use Rattle.theory.proofs.Pruned.{no-hanging}
-use Rattle.theory.proofs.Joined.{r1-alone, r3-alone}
-use Rattle.paper.specs.Sitting.{Joinable}
-
--- step 1, as the removal rule has it
-abbrev pub rest1 : ℕ → ℕ → Tables → ℕ → ℕ → Links
-rest1 w h t a b =
-    let back = table (slots w h) (reversal w) in
-    removed w h (record { next = t .next1; other = back }) (shared (t .side1) (at back) a b)
-
-abbrev pub rest3 : ℕ → ℕ → Tables → ℕ → ℕ → Links
-rest3 w h t a b =
-    removed w h (record { next = t .next3; other = t .other3 }) (shared (t .side1) (at (t .other3)) a b)
-
--- which steps 2 to 4 take up
-pub joined-rest1 : (w h : ℕ) (t : Tables) (a b : ℕ) → joined w h t a b .next1 ≡ pruned w h (rest1 w h t a b) .next
-unfolding joined
-joined-rest1 w h t a b = refl
-
-pub joined-rest3 : (w h : ℕ) (t : Tables) (a b : ℕ)
-    → joined w h t a b .next3
-    ≡ closed w h (on (joined w h t a b .next1)) (smoothed w h (pruned w h (rest3 w h t a b))) .next
-unfolding joined
-joined-rest3 w h t a b = refl
-
--- The entries of the point table.
-kind-most : (x y z : Bool) → cond x 0 (cond y 3 (cond z 2 1)) ≤ 3
-kind-most true y z = lit≤ tt
-kind-most false true z = lit≤ tt
-kind-most false false true = lit≤ tt
-kind-most false false false = lit≤ tt
-
-kind-below : (m : ℕ) → kind m ≤ 3
-unfolding kind
-kind-below m = kind-most (eqb m 0) (ltb 2 (degree m)) (eqb (inline m) 0)
-
--- entry 4 is read only where a line is taken that is not there, or where one line is alone, before or after
-becomes-possible : (m t : ℕ) → without t m ≡ 0 → degree m ≢ 1 → degree (without m t) ≢ 1 → becomes m t ≢ 4
-unfolding becomes impossible
-becomes-possible m t p q r =
-    rw (eq-eqb (without t m) 0 p, ne-eqb (degree m) 1 q, ne-eqb (degree (without m t)) 1 r)
-    (λ e. omega (arith, kind-below (without m t)))
+use Rattle.theory.proofs.Held.{Held, mask-agree, level-was, level-alone, mask-kept, mask-free, on-held}
+use Rattle.theory.proofs.Drawn.{sheet-plane, drawn-next1, drawn-reads}
+use Rattle.theory.proofs.Joined.{outside, r1-on, r1-alone, r3-alone, smooth-held, close-held}
 
 without-mask : (o q : ℕ → Bool) (p : ℕ) → without (mask o p) (mask q p) ≡ mask (λ d. o d && not (q d)) p
 unfolding without mask
@@ -82,40 +39,25 @@ without-mask o q p =
     bits-same (λ j. has (mask o p) j && not (has (mask q p) j)) (λ j. o (dart p j) && not (q (dart p j)))
     (λ j l. rw (has-mask o p j l, has-mask q p j l))
 
-and-not-and : (x y : Bool) → (x && not (x && y)) ≡ (x && not y)
-and-not-and true y = refl
+-- The lines o at a point p, of which the lines q are left.
+module _ (o q : ℕ → Bool) (p : ℕ) (f : (d : ℕ) → q d ≡ true → o d ≡ true) where
+  none-new : without (mask q p) (mask o p) ≡ 0
+  none-new =
+      without-none (mask o p) (mask q p)
+      (λ j l e. has-mask o p j l ∙ f (dart p j) (sym (has-mask q p j l) ∙ e))
+
+  left-no-four : degree (mask o p) ≢ 1 → degree (mask q p) ≢ 1 → becoming (mask o p) (mask q p) ≢ 4
+  left-no-four = becoming-four (mask o p) (mask q p) (mask-below o p) (mask-below q p) none-new
+
+  left-taken : becoming (mask o p) (mask q p) ≡ becomes (mask o p) (mask (λ d. o d && not (q d)) p)
+  left-taken =
+      becoming-taken (mask o p) (mask q p) (mask-below o p) (mask-below q p) none-new
+      ∙ ap (becomes (mask o p)) (without-mask o q p)
+
+and-not-and : (x y : Bool) → (x && not (x && not y)) ≡ (x && y)
+and-not-and true true = refl
+and-not-and true false = refl
 and-not-and false y = refl
-
--- The lines at a point p, and those of them that are taken when a and b become one.
-module _ (w h a b : ℕ) (n : List ℕ) (za : a ≢ 0) (zb : b ≢ 0) (p : ℕ) where
-  abbrev o : ℕ → Bool
-  o = border w h n
-
-  abbrev gone : ℕ → Bool
-  gone d = o d && taken (sheet w h n) (lower a b) d
-
-  -- what remains are the lines afterwards
-  remains : without (mask o p) (mask gone p) ≡ mask (border w h (map (lower a b) n)) p
-  unfolding less sheet lines-map
-  remains =
-      let z : lower a b 0 ≡ 0 = lower-other a b 0 (λ e. za (sym e)) (λ e. zb (sym e)) in
-      without-mask o gone p
-      ∙ mask-agree (λ d. o d && not (gone d)) (border w h (map (lower a b) n)) p
-      (λ j _. and-not-and (o (dart p j)) (taken (sheet w h n) (lower a b) (dart p j))
-      ∙ sym (fewer-border w h n (lower a b) z (dart p j)))
-
-  gone-there : without (mask gone p) (mask o p) ≡ 0
-  gone-there =
-      without-none (mask o p) (mask gone p) λ j l e.
-      has-mask o p j l
-      ∙ and-left (o (dart p j)) (taken (sheet w h n) (lower a b) (dart p j)) (sym (has-mask gone p j l) ∙ e)
-
-  -- so no point reads entry 4
-  pub lines-no-four : becomes (mask (border w h n) p)
-      (mask (λ d. border w h n d && taken (sheet w h n) (lower a b) d) p) ≢ 4
-  lines-no-four =
-      becomes-possible (mask o p) (mask gone p) gone-there (border-alone w h n p)
-      (rw remains (border-alone w h (map (lower a b) n) p))
 
 -- A join.
 module _ (w h : ℕ) (s : List ℕ) (room : slots w h ≤ mark) (a b : ℕ) (j : Joinable w h (drawing w h s) a b) where
@@ -125,42 +67,105 @@ module _ (w h : ℕ) (s : List ℕ) (room : slots w h ≤ mark) (a b : ℕ) (j :
   abbrev n : List ℕ
   n = names w h s
 
+  abbrev n′ : List ℕ
+  n′ = map (lower a b) n
+
   abbrev back : ℕ → ℕ
   back = at (table (slots w h) (reversal w))
 
-  -- step 1 leaves no point with one line, and so no hanging end, at level 1 and at level 3
-  pub never-one : (p : ℕ) → degree (mask (on (rest1 w h (drawing w h s) a b .next)) p) ≢ 1
-  unfolding drawing
-  never-one = r1-alone w h a b n room (j .apart) (j .inner .0) (j .inner .1)
+  -- After step 1 no point has exactly one line, at level 1 and at level 3: there is no hanging end.
+  pub no-hanging-line : (p : ℕ) → degree (mask (on (rest1 w h (drawing w h s) a b .next)) p) ≢ 1
+  unfolding drawing rest1
+  no-hanging-line = r1-alone w h a b n room (j .apart) (j .inner .0) (j .inner .1)
 
-  pub no-hanging-line : (d : ℕ) → hanging (rest1 w h (drawing w h s) a b) d ≡ false
-  no-hanging-line = no-hanging w h (rest1 w h t a b) never-one
-
-  pub no-hanging-curve : (d : ℕ) → hanging (rest3 w h (drawing w h s) a b) d ≡ false
-  unfolding drawing
-  no-hanging-curve =
-      no-hanging w h (rest3 w h t a b) (r3-alone w h a b n room (j .apart) (j .inner .0) (j .inner .1))
+  pub no-hanging-curve : (p : ℕ) → degree (mask (on (rest3 w h (drawing w h s) a b .next)) p) ≢ 1
+  unfolding drawing rest3
+  no-hanging-curve = r3-alone w h a b n room (j .apart) (j .inner .0) (j .inner .1)
 
   -- the lines that the tables tell, and those of them that step 1 takes
+  before : on (t .side1) ≡ border w h n
+  unfolding drawing drawn level plain
+  before = fun-ext (on-marked w h (border w h n) (side w h n) (border-below w h n) (λ d _. names-side-small w h s room d))
+
   on-is : on (t .next1) ≡ border w h n
   unfolding drawing
   on-is =
       fun-ext (on-links (drawn w h n .next1) (drawn-next1 w h n) λ d e q.
       let l = next-small w h (border w h n) (border-lines w h n) room d e in omega arith)
 
-  gone-is : (d : ℕ)
-      → (border w h n d && shared (t .side1) back a b d) ≡ (border w h n d && taken (sheet w h n) (lower a b) d)
-  unfolding drawing sheet lines-map
-  gone-is d = go (border w h n d) refl
+  left : on (rest1 w h t a b .next) ≡ border w h n′
+  unfolding drawing rest1
+  left = r1-on w h a b n room (j .apart) (j .inner .0) (j .inner .1)
+
+  fewer : (d : ℕ) → border w h n′ d ≡ true → border w h n d ≡ true
+  fewer = fewer-lines w h n (lower a b) (outside w h a b n room (j .apart) (j .inner .0) (j .inner .1))
+
+  gone-is : (d : ℕ) → (border w h n d && not (border w h n′ d)) ≡ (border w h n d && shared (t .side1) back a b d)
+  unfolding drawing less sheet lines-map
+  gone-is d =
+      rw (fewer-border w h n (lower a b) (outside w h a b n room (j .apart) (j .inner .0) (j .inner .1)) d)
+      (and-not-and (border w h n d) (taken (sheet w h n) (lower a b) d) ∙ go (border w h n d) refl)
     where
       go : (x : Bool) → border w h n d ≡ x
-          → (x && shared (t .side1) back a b d) ≡ (x && taken (sheet w h n) (lower a b) d)
-      go true e = gone-taken (sheet-chart w h n) (sheet-colours w h n) (drawn-reads w h n) room (j .apart) d e
+          → (x && taken (sheet w h n) (lower a b) d) ≡ (x && shared (t .side1) back a b d)
+      go true e = sym (gone-taken (sheet-chart w h n) (sheet-colours w h n) (drawn-reads w h n) room (j .apart) d e)
       go false e = refl
 
-  -- no point reads entry 4
+  -- The entry that is read of a point is the one for the lines present before and the lines taken.
+  pub read-taken : (p : ℕ)
+      → becoming (mask (on (drawing w h s .side1)) p) (mask (on (rest1 w h (drawing w h s) a b .next)) p)
+      ≡ becomes (mask (on (drawing w h s .next1)) p)
+      (mask (λ d. on (drawing w h s .next1) d
+      && shared (drawing w h s .side1) (at (table (slots w h) (reversal w))) a b d) p)
+  read-taken p =
+      rw (before, left, on-is)
+      (left-taken (border w h n) (border w h n′) p fewer
+      ∙ ap (becomes (mask (border w h n) p))
+      (mask-agree (λ d. border w h n d && not (border w h n′ d)) (λ d. border w h n d && shared (t .side1) back a b d) p
+      (λ k _. gone-is (dart p k))))
+
+  -- It is not 4, at level 1.
+  line-no-four : (p : ℕ) → becoming (mask (on (t .side1)) p) (mask (on (rest1 w h t a b .next)) p) ≢ 4
+  line-no-four p =
+      rw (before, left)
+      (left-no-four (border w h n) (border w h n′) p fewer (border-alone w h n p) (border-alone w h n′ p))
+
   pub join-no-four : (p : ℕ) → becomes (mask (on (drawing w h s .next1)) p)
       (mask (λ d. on (drawing w h s .next1) d
       && shared (drawing w h s .side1) (at (table (slots w h) (reversal w))) a b d) p) ≢ 4
-  join-no-four p =
-      rw (on-is, fun-ext gone-is) (lines-no-four w h a b n (j .inner .0) (j .inner .1) p)
+  join-no-four p e = line-no-four p (read-taken p ∙ e)
+
+  -- Nor at level 3, at any time; the level 3 darts of a point that has some are its lines, so that the same entry is read.
+  module _ (k : ℕ → Bool) (l : Links) (c : Covers (sheet w h n′) k) (g : Held w h (sheet w h n′) k l) (p : ℕ) where
+    held : on (l .next) ≡ Chart.level (sheet w h n′) k .on
+    held = on-held (sheet-plane w h n′) k room c g
+
+    held-no-four : becoming (mask (on (t .side1)) p) (mask (on (l .next)) p) ≢ 4
+    unfolding sheet lines-map
+    held-no-four =
+        rw (before, held)
+        (left-no-four (border w h n) (Chart.level (sheet w h n′) k .on) p
+        (λ d e. fewer d (level-was (sheet-plane w h n′) k d e)) (border-alone w h n p)
+        (level-alone (sheet-plane w h n′) k p))
+
+    held-lines : mask (on (l .next)) p ≢ 0 → mask (on (l .next)) p ≡ mask (on (rest1 w h t a b .next)) p
+    unfolding sheet lines-map
+    held-lines z = rw (held, left) (go (k p) refl)
+      where
+        go : (x : Bool) → k p ≡ x → mask (Chart.level (sheet w h n′) k .on) p ≡ mask (border w h n′) p
+        go true e = mask-kept (sheet-plane w h n′) k p e
+        go false e = absurd (z (rw held (mask-free (sheet-plane w h n′) k p e)))
+
+  midway-held : {l : Links} → Midway w h t a b l
+      → (k : ℕ → Bool) × Covers (sheet w h n′) k × Held w h (sheet w h n′) k l
+  unfolding drawing rest3
+  midway-held (step3 i) = smooth-held w h a b n room (j .apart) (j .inner .0) (j .inner .1) i
+  midway-held (step4 i) = rw left (close-held w h a b n room (j .apart) (j .inner .0) (j .inner .1) i)
+
+  pub midway-no-four : {l : Links} → Midway w h (drawing w h s) a b l → (p : ℕ)
+      → becoming (mask (on (drawing w h s .side1)) p) (mask (on (l .next)) p) ≢ 4
+  midway-no-four {l} e = let (k, c, g) = midway-held e in held-no-four k l c g
+
+  pub midway-lines : {l : Links} → Midway w h (drawing w h s) a b l → (p : ℕ)
+      → mask (on (l .next)) p ≢ 0 → mask (on (l .next)) p ≡ mask (on (rest1 w h (drawing w h s) a b .next)) p
+  midway-lines {l} e = let (k, c, g) = midway-held e in held-lines k l c g

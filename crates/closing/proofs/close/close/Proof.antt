@@ -11,14 +11,11 @@ use Rattle.closing.proofs.close.close.Statement.{statement}
 use Rattle.closing.proofs.close.close.Tie as tie
 
 abbrev Inv-loop : tie.InvT-loop
-Inv-loop width height lines tops next₀ other₀ kinds n p₀ next other p =
+Inv-loop width height outcomes before lines tops next₀ other₀ n p₀ next other p =
     Going (closes (on lines) tops) n p (links next₀ other₀) (links next other)
 
 abbrev μ-loop : tie.MeasureT-loop
-μ-loop width height lines tops next₀ other₀ kinds n p₀ next other p = n - p
-
-kinds-requires : tie.Need-kinds-requires Inv-loop μ-loop
-kinds-requires c κs = tt
+μ-loop width height outcomes before lines tops next₀ other₀ n p₀ next other p = n - p
 
 add-n : tie.Need-add-n Inv-loop μ-loop
 add-n c = omega (arith, within-limits _ _ (c .before .before .before .before .before .pre .0))
@@ -36,30 +33,27 @@ loop-holds c = going-start _ _ _
 close-point-requires : tie.Need-close-point-requires Inv-loop μ-loop
 unfolding points
 close-point-requires c κs =
-    let c3 = c .before .before .before in
-    let c5 = c3 .before .before in
-    let q = c5 .before .before .before .before .before .pre in
-    let b = c3 .loop-test .taken in
-    (c5 .kinds .ensures, darts-fit _ _ (q .0) _ b .0, omega (arith, q .1), q .2)
+    let i = c .before .before in
+    let q = i .before .before .before .before .before .before .before .pre in
+    let b = i .loop-test .taken in
+    (q .1, darts-fit _ _ (q .0) _ b .0, omega (arith, q .2), q .3)
 
 add-p : tie.Need-add-p Inv-loop μ-loop
 unfolding points
 add-p c =
-    let c8 = c .before .before .before .before .before .before .before .before in
-    let c15 = c8 .before .before .before .before .before .before .before in
-    omega (arith, points-fit _ _ (c15 .pre .0), c8 .loop-test .taken)
+    let i = c .before .before .before .before .before .before .before in
+    omega (arith, points-fit _ _ (i .before .before .before .before .before .before .before .pre .0), i .loop-test .taken)
 
 loop-less : tie.Need-loop-less Inv-loop μ-loop
-loop-less c = omega (arith, c .before .before .before .before .before .before .before .before .loop-test .taken)
+loop-less c = omega (arith, c .before .before .before .before .before .before .before .loop-test .taken)
 
 loop-again : tie.Need-loop-again Inv-loop μ-loop
 loop-again c =
-    let c4 = c .before .before .before .before in
-    let c8 = c4 .before .before .before .before in
-    let c9 = c8 .before in
-    let g = c4 .close-point in
-    going-on (closes (on _) _) (close (on _) _) (closes-none _ _) (closes-more _ _) _ _ _ _ (c9 .loop .inv)
-    (c8 .loop-test .taken) _ (g .ensures) (g .kept .1 .1 .1 .0) (g .kept .1 .1 .1 .1 .0)
+    let g = c .before .before .before .before in
+    let i = g .before .before .before in
+    let k = g .close-point .kept .1 .1 .1 .1 in
+    going-on (closes (on _) _) (close (on _) _) (closes-none _ _) (closes-more _ _) _ _ _ _ (i .before .loop .inv)
+    (i .loop-test .taken) _ (g .close-point .ensures) (k .0) (k .1 .0)
 
 same-length : tie.Need-same-length Inv-loop μ-loop
 same-length c = c .before .loop .inv .nexts
@@ -79,7 +73,6 @@ close-spec =
     (tie.spec
     Inv-loop
     μ-loop
-    kinds-requires
     add-n
     add-n-2
     mul-n

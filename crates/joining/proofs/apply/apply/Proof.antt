@@ -1,4 +1,4 @@
-use mathlib.Core.Path.{_≡_, sym, _∙_}
+use mathlib.Core.Path.{_≡_, refl, sym, _∙_}
 use Prim.Native.Nat.{_+_, _*_, _≤_}
 use native.Mathlib.Omega.{arith}
 use lib.ListN.{length}
@@ -19,27 +19,22 @@ use Rattle.joining.proofs.apply.apply.Tie as tie
 abbrev start : tie.After-list-darts → tie.Start
 start c = c .before .before .before .before .before .before .before .before .before .before .before .before
 
-abbrev listed : tie.After-drop-plain-lines → tie.After-list-darts
-listed c = c .before .before .before .before .before .before .before .before .before
+abbrev listed : tie.After-remove-plain-shared → tie.After-list-darts
+listed c = c .before .before .before .before .before .before .before
 
-abbrev plain : tie.After-narrow → tie.After-drop-plain-lines
-plain c = c .before .before .before .before .before .before .before .before .before .before .before
+abbrev plain : tie.After-narrow → tie.After-remove-plain-shared
+plain c = c .before .before .before .before .before .before .before
 
-abbrev narrowed : tie.After-drop-lines → tie.After-narrow
-narrowed c = c .before .before .before .before .before .before .before .before .before
+abbrev narrowed : tie.After-remove-shared → tie.After-narrow
+narrowed c = c .before .before .before .before .before .before .before
 
-abbrev lined : tie.After-lower-sides → tie.After-drop-lines
-lined c = c .before .before .before .before .before .before .before .before .before .before .before
-
-abbrev lowered : tie.After-settle → tie.After-lower-sides
-lowered c = c .before .before .before .before .before .before .before .before .before
+abbrev curved : tie.After-settle → tie.After-remove-shared
+curved c = c .before .before .before .before .before .before .before .before .before .before .before
 
 abbrev settled : tie.After-clear-four → tie.After-settle
-settled c =
-    c .before .before .before .before .before .before .before .before .before .before .before .before
-    .before
+settled c = c .before .before .before .before .before .before .before .before .before .before .before .before .before .before .before
 
-abbrev cleared : tie.After-slice-known28 → tie.After-clear-four
+abbrev cleared : tie.After-slice-known24 → tie.After-clear-four
 cleared c = c .before .before .before .before .before .before .before .before
 
 -- The list is as long as the work table that it stands in, and has room for the tops.
@@ -76,9 +71,9 @@ list-darts-requires c κs =
     let z = stated-long _ _ _ _ _ _ _ _ _ _ _ (q .sizes) in
     (z .lines .1 ∙ sym (z .work .3), omega (arith, z .work .3, within-fits _ _ (q .size)))
 
-drop-plain-lines-requires : tie.Need-drop-plain-lines-requires
-drop-plain-lines-requires c κs =
-    let l = c .before .before .before .before .before .before .before .before in
+remove-plain-shared-requires : tie.Need-remove-plain-shared-requires
+remove-plain-shared-requires c κs =
+    let l = c .before .before .before .before .before .before in
     let q = start l .pre in
     let z = stated-long _ _ _ _ _ _ _ _ _ _ _ (q .sizes) in (
       q .size,
@@ -88,15 +83,13 @@ drop-plain-lines-requires c κs =
       list-long l,
       z .lines .0,
       z .work .0,
-      z .work .1,
-      z .work .2,
       bounded-all _ _ _ _ _ _ _ (rw (z .work .3) at (l .list-darts .ensures)),
       q .plain,
     )
 
 narrow-requires : tie.Need-narrow-requires
 narrow-requires c κs =
-    let l = listed (c .before .before .before .before .before .before .before .before .before .before) in
+    let l = listed (c .before .before .before .before .before .before) in
     let q = start l .pre in
     let z = stated-long _ _ _ _ _ _ _ _ _ _ _ (q .sizes) in
     let e = list-long l in (
@@ -105,138 +98,117 @@ narrow-requires c κs =
       lined-bounds l,
     )
 
-drop-lines-requires : tie.Need-drop-lines-requires
-drop-lines-requires c κs =
-    let m = c .before .before .before .before .before .before .before .before in
-    let d = plain m in
-    let l = listed d in
+remove-shared-requires : tie.Need-remove-shared-requires
+remove-shared-requires c κs =
+    let m = c .before .before .before .before .before .before in
+    let l = listed (plain m) in
     let q = start l .pre in
-    let z = stated-long _ _ _ _ _ _ _ _ _ _ _ (q .sizes) in
-    let k = d .drop-plain-lines .kept .1 .1 .1 .1 .1 .1 .1 .1 .1 in (
-      q .size,
+    let z = stated-long _ _ _ _ _ _ _ _ _ _ _ (q .sizes) in (
+      within-fits _ _ (q .size),
       q .first,
       q .second,
       z .lines .1,
       narrow-long m,
       z .lines .2,
       z .lines .3,
-      k .0 ∙ z .work .1,
-      k .1 .0 ∙ z .work .2,
-      bounded-on _ _ _ _ _ _ _
-          (rw (list-long l) at (m .narrow .ensures (lined-bounds l))),
+      bounded-on _ _ _ _ _ _ _ (rw (list-long l) at (m .narrow .ensures (lined-bounds l))),
       q .curves,
     )
 
-lower-sides-requires : tie.Need-lower-sides-requires
-lower-sides-requires c κs =
-    let d = plain (narrowed (c .before .before .before .before .before .before .before .before .before .before)) in
-    let z = stated-long _ _ _ _ _ _ _ _ _ _ _ (start (listed d) .pre .sizes) in
-    d .drop-plain-lines .kept .1 .1 .1 .1 .1 .1 .1 .0 ∙ z .lines .0 ∙ sym (z .lines .1)
-
 add-n : tie.Need-add-n
-add-n c = omega (arith, within-limits _ _ (start (listed (plain (narrowed (lined (c .before .before))))) .pre .size))
+add-n c = omega (arith, within-limits _ _ (start (listed (plain (narrowed (c .before .before .before .before)))) .pre .size))
 
 add-n-2 : tie.Need-add-n-2
-add-n-2 c = omega (arith, within-limits _ _ (start (listed (plain (narrowed (lined (c .before .before))))) .pre .size))
+add-n-2 c = omega (arith, within-limits _ _ (start (listed (plain (narrowed (c .before .before .before .before)))) .pre .size))
 
 mul-n : tie.Need-mul-n
 unfolding points
-mul-n c = omega (arith, points-fit _ _ (start (listed (plain (narrowed (lined (c .before .before))))) .pre .size))
+mul-n c = omega (arith, points-fit _ _ (start (listed (plain (narrowed (c .before .before .before .before)))) .pre .size))
 
 cast-n : tie.Need-cast-n
 unfolding points
-cast-n c = omega (arith, points-fit _ _ (start (listed (plain (narrowed (lined (c .before .before))))) .pre .size))
+cast-n c = omega (arith, points-fit _ _ (start (listed (plain (narrowed (c .before .before .before .before)))) .pre .size))
 
 slice-relend-prefix-settle : tie.Need-slice-relend-prefix-settle
-slice-relend-prefix-settle c = work-room (narrowed (lined (c .before .before .before .before .before .before .before)))
+slice-relend-prefix-settle c = work-room (narrowed (c .before .before .before .before .before .before .before .before .before))
 
 slice-aggregate-settle : tie.Need-slice-aggregate-settle
-slice-aggregate-settle c =
-    let m = narrowed (lined (c .before .before .before .before .before .before .before .before)) in
-    sym (length-take-le _ _ (work-room m))
+slice-aggregate-settle c = sym (length-take-le _ _ (work-room (narrowed (c .before .before .before .before .before .before .before .before .before .before))))
 
 settle-requires : tie.Need-settle-requires
 unfolding points
 settle-requires c κs =
-    let b = c .before .before .before .before .before .before .before .before in
-    let m = narrowed (lined b) in
-    let l = listed (plain m) in
-    let z = stated-long _ _ _ _ _ _ _ _ _ _ _ (start l .pre .sizes) in
-    let t = length-take-le _ _ (work-room m) in
-    (start l .pre .size, b .lower-sides .kept .1 .1 .1 .0 ∙ z .lines .1, z .names, t)
+    let m = narrowed (c .before .before .before .before .before .before .before .before .before .before) in
+    let p = plain m in
+    let q = start (listed p) .pre in
+    let z = stated-long _ _ _ _ _ _ _ _ _ _ _ (q .sizes) in
+    let k = p .remove-plain-shared .kept .1 .1 .1 .1 .1 .1 .1 .0 in
+    (q .size, k ∙ z .lines .0, z .lines .1, z .names, length-take-le _ _ (work-room m))
 
 clear-four-requires : tie.Need-clear-four-requires
 clear-four-requires c κs = tt
 
 -- Each table keeps its length.
 same-length : tie.Need-same-length
-same-length c = plain (narrowed (lined (lowered (settled (cleared c))))) .drop-plain-lines .kept .1 .1 .1 .1 .1 .1 .1 .0
+same-length c = plain (narrowed (curved (settled (cleared c)))) .remove-plain-shared .kept .1 .1 .1 .1 .1 .1 .1 .0
 
 same-length-2 : tie.Need-same-length-2
-same-length-2 c = lowered (settled (cleared c)) .lower-sides .kept .1 .1 .1 .0
+same-length-2 c = settled (cleared c) .settle .kept .1 .1 .1 .1 .1 .0
 
 same-length-3 : tie.Need-same-length-3
 same-length-3 c =
     let s = settled (cleared c) in
-    s .settle .kept .1 .1 .1 .1 .0 ∙ lined (lowered s) .drop-lines .kept .1 .1 .1 .1 .1 .1 .1 .0
+    s .settle .kept .1 .1 .1 .1 .1 .1 .0 ∙ curved s .remove-shared .kept .1 .1 .1 .1 .1 .1 .1 .0
 
 same-length-4 : tie.Need-same-length-4
 same-length-4 c =
     let s = settled (cleared c) in
-    s .settle .kept .1 .1 .1 .1 .1 .0 ∙ lined (lowered s) .drop-lines .kept .1 .1 .1 .1 .1 .1 .1 .1 .0
+    s .settle .kept .1 .1 .1 .1 .1 .1 .1 .0 ∙ curved s .remove-shared .kept .1 .1 .1 .1 .1 .1 .1 .1 .0
 
 same-length-5 : tie.Need-same-length-5
-same-length-5 c = settled (cleared c) .settle .kept .1 .1 .1 .1 .1 .1 .0
+same-length-5 c = settled (cleared c) .settle .kept .1 .1 .1 .1 .1 .1 .1 .1 .0
 
 same-length-6 : tie.Need-same-length-6
 same-length-6 c =
-    let b = plain (narrowed (lined (lowered (settled (cleared c))))) in
-    cleared c .clear-four .kept .0 ∙ b .drop-plain-lines .kept .1 .1 .1 .1 .1 .1 .1 .1 .0
+    let p = plain (narrowed (curved (settled (cleared c)))) in
+    cleared c .clear-four .kept .0 ∙ p .remove-plain-shared .kept .1 .1 .1 .1 .1 .1 .1 .1 .0
 
 same-length-7 : tie.Need-same-length-7
-same-length-7 c =
-    let l = lined (lowered (settled (cleared c))) in
-    cleared c .clear-four .kept .1 .0 ∙ l .drop-lines .kept .1 .1 .1 .1 .1 .1 .1 .1 .1 .0
-    ∙ plain (narrowed l) .drop-plain-lines .kept .1 .1 .1 .1 .1 .1 .1 .1 .1 .0
+same-length-7 c = cleared c .clear-four .kept .1 .0
 
 same-length-8 : tie.Need-same-length-8
-same-length-8 c =
-    let l = lined (lowered (settled (cleared c))) in
-    cleared c .clear-four .kept .1 .1 .0 ∙ l .drop-lines .kept .1 .1 .1 .1 .1 .1 .1 .1 .1 .1 .0
-    ∙ plain (narrowed l) .drop-plain-lines .kept .1 .1 .1 .1 .1 .1 .1 .1 .1 .1 .0
+same-length-8 c = cleared c .clear-four .kept .1 .1 .0
 
 same-length-9 : tie.Need-same-length-9
 same-length-9 c =
     let s = settled (cleared c) in
-    let m = narrowed (lined (lowered s)) in
+    let m = narrowed (curved s) in
     let l = listed (plain m) in
     let a = start l .args in
     let list = m .narrow .last .1 .1 .0 in
-    let top = s .settle .last .1 .1 .1 .1 .1 .1 .1 .0 in
+    let top = s .settle .last .1 .1 .1 .1 .1 .1 .1 .1 .1 .0 in
     cleared c .clear-four .kept .1 .1 .1 .0
-    ∙ length-front list top ((a .width + 1) * (a .height + 1)) (s .settle .kept .1 .1 .1 .1 .1 .1 .1 .0)
+    ∙ length-front list top ((a .width + 1) * (a .height + 1)) (s .settle .kept .1 .1 .1 .1 .1 .1 .1 .1 .1 .0)
     ∙ m .narrow .kept .1 .1 .0 ∙ l .list-darts .kept .1 .1 .1 .0
 
 returns : tie.Need-returns
 returns c =
     let s = settled (cleared c) in
-    let l = lined (lowered s) in
-    let n = narrowed l in
-    let m = listed (plain n) in
-    let a = start m in
+    let e = curved s in
+    let n = narrowed e in
+    let p = plain n in
+    let l = listed p in
+    let a = start l in
     let z = stated-long _ _ _ _ _ _ _ _ _ _ _ (a .pre .sizes) in
-    let d = plain n .drop-plain-lines in
-    let e = l .drop-lines in
-    let f = d .kept .1 .1 .1 .1 .1 .1 .1 .1 in
-    let g = e .kept .1 .1 .1 .1 .1 .1 .1 .1 .1 in
     let list = n .narrow .last .1 .1 .0 in
-    let top = s .settle .last .1 .1 .1 .1 .1 .1 .1 .0 in (
-      all-steps _ _ _ _ _ _ _ _ _ (a .pre .first) (a .pre .second) (z .lines .1) (a .pre .sided) _ _ _ _ _ _ (d .ensures)
-          (e .ensures) (lowered s .lower-sides .ensures) (s .settle .ensures .0) (s .settle .ensures .1),
+    let top = s .settle .last .1 .1 .1 .1 .1 .1 .1 .1 .1 .0 in (
+      all-steps _ _ _ _ _ _ _ _ _ (a .pre .first) (a .pre .second) (z .lines .1) (a .pre .sided) _ _ _ _ _ _
+          (p .remove-plain-shared .ensures) (e .remove-shared .ensures) (s .settle .ensures .0) (s .settle .ensures .1)
+          (s .settle .ensures .2),
       cleared c .clear-four .ensures
-          ∙ cleared-same _ _ _ _ _ _ _ _ (f .0) (g .0 ∙ f .1 .0) (g .1 .0 ∙ f .1 .1 .0)
-          (length-front list top ((a .args .width + 1) * (a .args .height + 1)) (s .settle .kept .1 .1 .1 .1 .1 .1 .1 .0)
-          ∙ n .narrow .kept .1 .1 .0 ∙ m .list-darts .kept .1 .1 .1 .0),
+          ∙ cleared-same _ _ _ _ _ _ _ _ (p .remove-plain-shared .kept .1 .1 .1 .1 .1 .1 .1 .1 .0) refl refl
+          (length-front list top ((a .args .width + 1) * (a .args .height + 1)) (s .settle .kept .1 .1 .1 .1 .1 .1 .1 .1 .1 .0)
+          ∙ n .narrow .kept .1 .1 .0 ∙ l .list-darts .kept .1 .1 .1 .0),
     )
 
 pub apply-spec : {M : Type 1} → statement M
@@ -244,10 +216,9 @@ apply-spec =
     tie.close
     (tie.spec
     list-darts-requires
-    drop-plain-lines-requires
+    remove-plain-shared-requires
     narrow-requires
-    drop-lines-requires
-    lower-sides-requires
+    remove-shared-requires
     add-n
     add-n-2
     mul-n

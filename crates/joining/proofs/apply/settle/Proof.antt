@@ -1,78 +1,64 @@
 use mathlib.Core.Path.{_∙_}
-use Rattle.joining.proofs.Applying.{tops-rising, settle-links, settle-parents}
+use borrow.Author.Needs.{needs}
+use Rattle.joining.proofs.Applying.{tops-rising}
 use Rattle.joining.proofs.apply.settle.Statement.{statement}
 use Rattle.joining.proofs.apply.settle.Tie as tie
 
-top-points-requires : tie.Need-top-points-requires
-top-points-requires c κs =
-    let c7 = c .before .before .before .before .before .before .before in
-    let q = c7 .pre in (q .0, q .1, q .3)
+-- From each call back to the call before it, and to the start.
+abbrev start : tie.After-settle-curves → tie.Start
+start c = c .before .before .before .before .before .before .before .before .before .before .before
 
-smooth-requires : tie.Need-smooth-requires
-smooth-requires c κs =
-    let c12 = c .before .before .before .before .before .before .before .before .before .before .before .before in
-    c12 .pre .0
+abbrev curved : tie.After-lower-sides → tie.After-settle-curves
+curved c = c .before .before .before .before .before .before .before .before
 
-close-requires : tie.Need-close-requires
-close-requires c κs =
-    let c12 = c .before .before .before .before .before .before .before .before .before .before .before .before in
-    let c20 = c12 .before .before .before .before .before .before .before .before in
-    let q = c20 .pre in
-    let t = c12 .top-points in
-    (q .0, t .kept .1 .1 .1 .0 ∙ q .3, tops-rising _ _ _ _ (t .ensures))
+abbrev lowered : tie.After-find-parents → tie.After-lower-sides
+lowered c = c .before .before .before .before .before .before
+
+settle-curves-requires : tie.Need-settle-curves-requires
+settle-curves-requires c κs = search needs
+
+lower-sides-requires : tie.Need-lower-sides-requires
+lower-sides-requires c κs = search needs
 
 find-parents-requires : tie.Need-find-parents-requires
 find-parents-requires c κs =
-    let c19 = c .before .before .before .before .before .before .before .before .before .before .before .before
-    .before .before .before .before .before .before .before in
-    let c27 = c19 .before .before .before .before .before .before .before .before in
-    let q = c27 .pre in
-    let t = c19 .top-points in
-    (q .0, t .kept .1 .1 .1 .0 ∙ q .3, tops-rising _ _ _ _ (t .ensures), q .2)
+    let k = curved (c .before .before .before .before .before) in
+    let q = start k .pre in
+    let s = k .settle-curves in
+    (q .0, s .kept .1 .1 .1 .1 .1 .1 .0 ∙ q .4, tops-rising _ _ _ _ (s .ensures .1), q .3)
 
 same-length : tie.Need-same-length
-same-length c =
-    let c9 = c .before .before .before .before .before .before .before .before .before in
-    let c17 = c9 .before .before .before .before .before .before .before .before in
-    c9 .close .kept .1 .1 .1 .1 .0 ∙ c17 .smooth .kept .1 .1 .0
+same-length c = search needs
 
 same-length-2 : tie.Need-same-length-2
-same-length-2 c =
-    let c9 = c .before .before .before .before .before .before .before .before .before in
-    let c17 = c9 .before .before .before .before .before .before .before .before in
-    c9 .close .kept .1 .1 .1 .1 .1 .0 ∙ c17 .smooth .kept .1 .1 .1 .0
+same-length-2 c = search needs
 
 same-length-3 : tie.Need-same-length-3
-same-length-3 c = c .before .before .find-parents .kept .1 .1 .1 .1 .0
+same-length-3 c = search needs
 
 same-length-4 : tie.Need-same-length-4
-same-length-4 c =
-    let c22 = c .before .before .before .before .before .before .before .before .before .before .before .before
-    .before .before .before .before .before .before .before .before .before .before in
-    c22 .top-points .kept .1 .1 .1 .0
+same-length-4 c = search needs
+
+same-length-5 : tie.Need-same-length-5
+same-length-5 c = search needs
 
 returns : tie.Need-returns
 returns c =
-    let c2 = c .before .before in
-    let c9 = c2 .before .before .before .before .before .before .before in
-    let c17 = c9 .before .before .before .before .before .before .before .before in
-    let c22 = c17 .before .before .before .before .before in
-    let t = c22 .top-points .ensures in (
-      settle-links _ _ _ _ t _ _ _ _ (c17 .smooth .ensures) (c9 .close .ensures),
-      settle-parents _ _ _ _ t _ _
-          (c2 .find-parents .ensures),
-    )
+    let f = c .before .before in
+    let l = lowered f in
+    let s = curved l .settle-curves .ensures in
+    (s .0, l .lower-sides .ensures, rw (s .1) at (f .find-parents .ensures))
 
 pub settle-spec : {M : Type 1} → statement M
 settle-spec =
     tie.close
     (tie.spec
-    top-points-requires
-    smooth-requires
-    close-requires
+    settle-curves-requires
+    lower-sides-requires
     find-parents-requires
     same-length
     same-length-2
     same-length-3
     same-length-4
+    same-length-5
     returns)

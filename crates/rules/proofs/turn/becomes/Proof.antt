@@ -1,10 +1,6 @@
-use mathlib.Core.Path.{refl}
 use Prim.Native.Nat.{suc-le-suc}
 use borrow.Author.Tests.{lt-ltb, le-ltb}
-use Rattle.laws.specs.Table.{table, listed}
-use Rattle.plane.specs.Dart.{turned}
-use Rattle.plane.specs.Point.{bits, half, has, degree, inline}
-use Rattle.rules.specs.Turn.{without, impossible, kind, becomes, becomesOf, outcomes}
+use Rattle.rules.specs.Turn.{becomesOf}
 use Rattle.rules.proofs.Entry.{becomes-entry}
 use borrow.Author.Needs.{needs}
 use Rattle.rules.proofs.turn.becomes.Statement.{statement}
@@ -17,6 +13,9 @@ returns c = simp (le-ltb _ 16 (c .if1 .taken))
 returns-2 : tie.Need-returns-2
 unfolding becomesOf
 returns-2 c = simp (lt-ltb _ 16 (suc-le-suc (c .before .if1 .left)), le-ltb _ 16 (c .if2 .taken))
+
+point-table-requires : tie.Need-point-table-requires
+point-table-requires c κs = search needs
 
 mul-result : tie.Need-mul-result
 mul-result c = search needs
@@ -34,8 +33,8 @@ array-read-result : tie.Need-array-read-result
 array-read-result c = search needs
 
 returns-3 : tie.Need-returns-3
-unfolding outcomes becomes without impossible kind turned bits half has degree inline table listed
-returns-3 c = becomes-entry _ _ _ refl (suc-le-suc (c .before .if1 .left)) (suc-le-suc (c .if2 .left))
+returns-3 c =
+    becomes-entry _ _ _ (c .point-table .ensures) (suc-le-suc (c .before .before .if1 .left)) (suc-le-suc (c .before .if2 .left))
 
 pub becomes-spec : {M : Type 1} → statement M
 becomes-spec =
@@ -43,6 +42,7 @@ becomes-spec =
     (tie.spec
     returns
     returns-2
+    point-table-requires
     mul-result
     add-result
     cast-result

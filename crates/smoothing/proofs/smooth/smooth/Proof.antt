@@ -11,24 +11,21 @@ use Rattle.smoothing.proofs.smooth.smooth.Statement.{statement}
 use Rattle.smoothing.proofs.smooth.smooth.Tie as tie
 
 abbrev Inv-loop : tie.InvT-loop
-Inv-loop width height next₀ other₀ kinds n p₀ next other p =
+Inv-loop width height outcomes before next₀ other₀ n p₀ next other p =
     Going smooths n p (links next₀ other₀) (links next other)
 
 abbrev μ-loop : tie.MeasureT-loop
-μ-loop width height next₀ other₀ kinds n p₀ next other p = n - p
-
-kinds-requires : tie.Need-kinds-requires Inv-loop μ-loop
-kinds-requires c κs = tt
+μ-loop width height outcomes before next₀ other₀ n p₀ next other p = n - p
 
 add-n : tie.Need-add-n Inv-loop μ-loop
-add-n c = omega (arith, within-limits _ _ (c .before .before .before .pre))
+add-n c = omega (arith, within-limits _ _ (c .before .before .before .pre .0))
 
 add-n-2 : tie.Need-add-n-2 Inv-loop μ-loop
-add-n-2 c = omega (arith, within-limits _ _ (c .before .before .before .pre))
+add-n-2 c = omega (arith, within-limits _ _ (c .before .before .before .pre .0))
 
 mul-n : tie.Need-mul-n Inv-loop μ-loop
 unfolding points
-mul-n c = omega (arith, points-fit _ _ (c .before .before .before .pre))
+mul-n c = omega (arith, points-fit _ _ (c .before .before .before .pre .0))
 
 loop-holds : tie.Need-loop-holds Inv-loop μ-loop
 loop-holds c = going-start _ _ _
@@ -36,29 +33,26 @@ loop-holds c = going-start _ _ _
 smooth-point-requires : tie.Need-smooth-point-requires Inv-loop μ-loop
 unfolding points
 smooth-point-requires c κs =
-    let c3 = c .before .before .before in
-    let c5 = c3 .before .before in
-    let c8 = c5 .before .before .before in
-    (c5 .kinds .ensures, darts-fit _ _ (c8 .pre) _ (c3 .loop-test .taken) .0)
+    let i = c .before .before in
+    let q = i .before .before .before .before .before .pre in
+    (q .1, darts-fit _ _ (q .0) _ (i .loop-test .taken) .0)
 
 add-p : tie.Need-add-p Inv-loop μ-loop
 unfolding points
 add-p c =
-    let c8 = c .before .before .before .before .before .before .before .before in
-    let c13 = c8 .before .before .before .before .before in
-    omega (arith, points-fit _ _ (c13 .pre), c8 .loop-test .taken)
+    let i = c .before .before .before .before .before .before .before in
+    omega (arith, points-fit _ _ (i .before .before .before .before .before .pre .0), i .loop-test .taken)
 
 loop-less : tie.Need-loop-less Inv-loop μ-loop
-loop-less c = omega (arith, c .before .before .before .before .before .before .before .before .loop-test .taken)
+loop-less c = omega (arith, c .before .before .before .before .before .before .before .loop-test .taken)
 
 loop-again : tie.Need-loop-again Inv-loop μ-loop
 loop-again c =
-    let c4 = c .before .before .before .before in
-    let c8 = c4 .before .before .before .before in
-    let c9 = c8 .before in
-    let g = c4 .smooth-point in
-    going-on smooths smooth smooths-none smooths-more _ _ _ _ (c9 .loop .inv) (c8 .loop-test .taken) _
-    (g .ensures) (g .kept .1 .0) (g .kept .1 .1 .0)
+    let g = c .before .before .before .before in
+    let i = g .before .before .before in
+    let k = g .smooth-point .kept .1 .1 in
+    going-on smooths smooth smooths-none smooths-more _ _ _ _ (i .before .loop .inv) (i .loop-test .taken) _
+    (g .smooth-point .ensures) (k .0) (k .1 .0)
 
 same-length : tie.Need-same-length Inv-loop μ-loop
 same-length c = c .before .loop .inv .nexts
@@ -76,7 +70,6 @@ smooth-spec =
     (tie.spec
     Inv-loop
     μ-loop
-    kinds-requires
     add-n
     add-n-2
     mul-n

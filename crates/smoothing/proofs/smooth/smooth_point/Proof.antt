@@ -5,7 +5,7 @@ use Rattle.smoothing.proofs.smooth.smooth_point.Statement.{statement}
 use Rattle.smoothing.proofs.smooth.smooth_point.Tie as tie
 
 two-requires : tie.Need-two-requires
-two-requires c κs = c .before .before .before .pre
+two-requires c κs = c .before .before .before .before .pre
 
 same-length : tie.Need-same-length
 same-length c = refl
@@ -15,7 +15,7 @@ returns c =
     smooth-other _ _ _ (c .before .two .ensures) (not-true _ (c .if1 .taken))
 
 seen-requires : tie.Need-seen-requires
-seen-requires c κs = c .before .before .before .before .before .before .pre .1
+seen-requires c κs = c .before .before .before .before .before .before .before .pre .1
 
 smooth-edge-requires : tie.Need-smooth-edge-requires
 smooth-edge-requires c κs = tt
@@ -28,11 +28,11 @@ same-length-3 c = c .before .before .before .before .smooth-edge .kept .1 .0
 
 returns-2 : tie.Need-returns-2
 returns-2 c =
-    let s = c .before .before .before .before .before .before .before in
-    let t = c .before .before .before .before .before .before .before .before .before .before .two in
-    c .before .before .before .before .smooth-edge .ensures
-    ∙ smooth-two _ _ _ (t .ensures) (not-false _ (c .before .before .before .before .before .before .before .before .before .if1 .left))
-    _ _ (s .seen .ensures .0) (s .seen .ensures .1)
+    let e = c .before .before .before .before in
+    let s = e .before .before .before in
+    let i = s .before .before in
+    e .smooth-edge .ensures
+    ∙ smooth-two _ _ _ (i .before .two .ensures) (not-false _ (i .if1 .left)) _ _ (s .seen .ensures .0) (s .seen .ensures .1)
 
 pub smooth-point-spec : {M : Type 1} → statement M
 smooth-point-spec =

@@ -1,2 +1,0 @@
-mod Dropping
-mod Watching
