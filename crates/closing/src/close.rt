@@ -5,7 +5,7 @@ ghost use mathlib.Core.Bool.{true};
 ghost use Prim.Native.Nat.{_<_};
 ghost use lib.ListN.{length};
 ghost use Rattle.limits.specs.Size.{within};
-ghost use Rattle.plane.specs.Dart.{mark, points, dart};
+ghost use Rattle.plane.specs.Dart.{mark, points, slots, dart};
 ghost use Rattle.rules.specs.Turn.{pointTable};
 ghost use Rattle.paper.specs.Joining.{on, moved, close, closes};
 ghost use Rattle.removal.specs.Links.{links};
@@ -35,27 +35,32 @@ fn close_point(
     point: u16,
 )
     requires { ⌜
-        (now outcomes ≡ pointTable) × (dart point 3 < mark) × (point < length (now tops)) × Rising (now tops)
+        (now outcomes ≡ pointTable) × (dart point 3 < mark) × (dart point 3 < length (now before)) ×
+        (dart point 3 < length (now lines)) × (dart point 3 < length (now next)) × (point < length (now tops)) ×
+        Rising (now tops)
         ⌝ }
     ensures { λ _. ⌜
         links (now (next .exit)) (now (other .exit)) ≡
         close (on (now (lines .entry))) (now (tops .entry)) (links (now (next .entry)) (now (other .entry))) point
         ⌝ }
 {
-    let seen = ends::seen(next, point);
+    let curves = ends::mask(next, point);
+    if !ends::two(outcomes, curves, curves) {
+        return;
+    }
+    let seen = ends::seen(curves, point);
     let u = seen.first;
     let v = seen.last;
     let x = entry::get(other, u);
     if x != v {
         return;
     }
-    if !ends::two(outcomes, before, next, point) {
+    let left = ends::mask(lines, point);
+    if !ends::two(outcomes, ends::mask(before, point), left) {
         return;
     }
-    if !ends::two(outcomes, before, lines, point) {
-        return;
-    }
-    let anchor = ends::seen(lines, tops[point as usize]);
+    let top = tops[point as usize];
+    let anchor = ends::seen(ends::mask(lines, top), top);
     move_loop(next, other, u, v, anchor.first, anchor.last);
 }
 
@@ -72,8 +77,9 @@ pub fn close(
     other: &mut [u16],
 )
     requires { ⌜
-        (within width height ≡ true) × (now outcomes ≡ pointTable) × (length (now tops) ≡ points width height) ×
-        Rising (now tops)
+        (within width height ≡ true) × (now outcomes ≡ pointTable) × (length (now before) ≡ slots width height) ×
+        (length (now lines) ≡ slots width height) × (length (now next) ≡ slots width height) ×
+        (length (now tops) ≡ points width height) × Rising (now tops)
         ⌝ }
     ensures { λ _. ⌜
         links (now (next .exit)) (now (other .exit)) ≡

@@ -1,7 +1,7 @@
 -- What is seen at a point.
 --   at t d, on t d  == the entry of dart d, the mark past the end; that it is not the mark
 use mathlib.Core.Path.{_≡_}
-use mathlib.Core.Bool.{true, false, not, _||_}
+use mathlib.Core.Bool.{true, not, _||_}
 use mathlib.Core.List.{List}
 use Prim.Native.Nat.{ℕ, _+_, _*_, _≤_, _<_, zero-le}
 use native.Mathlib.Nat.{add-zero, one-mul, mul-zero, mul-one, le-refl}
@@ -9,7 +9,7 @@ use lib.Dec.{eqb}
 use borrow.Author.Tests.{eq-eqb, ne-eqb}
 use Rattle.laws.specs.Table.{number}
 use Rattle.plane.specs.Dart.{mark, dart}
-use Rattle.plane.specs.Point.{bits, half, has, degree}
+use Rattle.plane.specs.Point.{bits, degree}
 use Rattle.rules.specs.Turn.{becoming}
 use Rattle.rules.proofs.Becoming.{becoming-two}
 use Rattle.paper.specs.Level.{mask}
@@ -44,8 +44,3 @@ module _ (m l k : ℕ) (a : m < 16) (b : l < 16) (e : k ≡ becoming m l) where
 
   pub two-corner : (k ≡ 1 → ⊥) → eqb k 2 ≡ eqb (degree l) 2
   two-corner n = rw (ne-eqb k 1 n) at said
-
--- a point with no line left has not two
-pub two-none : (l : ℕ) → l ≡ 0 → false ≡ eqb (degree l) 2
-unfolding degree has half
-two-none l e = rw e

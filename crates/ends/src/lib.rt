@@ -1,12 +1,12 @@
 // The darts of a level that leave a point: which, and whether they are two, by the point table.
 use plane::dart;
 use rules::turn;
-use table::entry;
 ghost use mathlib.Core.Path.{_≡_};
 ghost use mathlib.Core.Bool.{not};
 ghost use mathlib.Core.List.{List};
 ghost use Prim.Native.Nat.{ℕ, _+_, _*_, _≤_, _<_};
 ghost use lib.Dec.{eqb};
+ghost use lib.ListN.{length};
 ghost use Rattle.laws.specs.Table.{number};
 ghost use Rattle.plane.specs.Dart.{mark, dart};
 ghost use Rattle.plane.specs.Point.{degree};
@@ -44,25 +44,17 @@ fn mask_of(east: u16, south: u16, west: u16, north: u16) -> u16
     e + s + w + n
 }
 
-// The mask of the lines at a point for which a table has entries. One test serves the four where the table reaches.
+// The mask of the lines at a point for which a table has entries.
 pub fn mask(table: &[u16], point: u16) -> u16
-    requires { ⌜ dart point 3 < mark ⌝ }
+    requires { ⌜ (dart point 3 < mark) × (dart point 3 < length (now table)) ⌝ }
     ensures { λ r. ⌜ (r ≡ mask (on (now (table .entry))) point) × (r < 16) ⌝ }
 {
-    let d = 4 * point;
-    let i = d as usize;
-    if i + 3 < table.len() {
-        return mask_of(table[i], table[i + 1], table[i + 2], table[i + 3]);
-    }
-    let east = entry::get(table, d);
-    let south = entry::get(table, d + 1);
-    let west = entry::get(table, d + 2);
-    let north = entry::get(table, d + 3);
-    mask_of(east, south, west, north)
+    let i = (4 * point) as usize;
+    mask_of(table[i], table[i + 1], table[i + 2], table[i + 3])
 }
 
 // What a point becomes, by the point table, that had the lines before and has the lines left: the table is read at the
-// lines that were there and those of them that are taken.
+// lines present and those of them that are taken.
 fn becoming(outcomes: &[u16; 256], before: u16, left: u16) -> u16
     requires { ⌜ (now outcomes ≡ pointTable) × (before < 16) × (left < 16) ⌝ }
     ensures { λ r. ⌜ r ≡ becoming before left ⌝ }
@@ -72,17 +64,12 @@ fn becoming(outcomes: &[u16; 256], before: u16, left: u16) -> u16
     outcomes[(16 * present + taken) as usize]
 }
 
-// Whether exactly two lines are left at a point: it becomes two lines in line or a corner. Before has entries for the lines
-// that were there, left for those that are left.
-pub fn two(outcomes: &[u16; 256], before: &[u16], left: &[u16], point: u16) -> bool
-    requires { ⌜ (now outcomes ≡ pointTable) × (dart point 3 < mark) ⌝ }
-    ensures { λ r. ⌜ r ≡ eqb (degree (mask (on (now (left .entry))) point)) 2 ⌝ }
+// Whether exactly two lines are left of those before: the point becomes two lines in line or a corner.
+pub fn two(outcomes: &[u16; 256], before: u16, left: u16) -> bool
+    requires { ⌜ (now outcomes ≡ pointTable) × (before < 16) × (left < 16) ⌝ }
+    ensures { λ r. ⌜ r ≡ eqb (degree left) 2 ⌝ }
 {
-    let lines = mask(left, point);
-    if lines == 0 {
-        return false;
-    }
-    let kind = becoming(outcomes, mask(before, point), lines);
+    let kind = becoming(outcomes, before, left);
     if kind == turn::IN_LINE {
         return true;
     }
@@ -121,15 +108,11 @@ fn high(lines: u16) -> u16
     0
 }
 
-// The first and the last dart that leave a point and for which a table has entries.
-pub fn seen(table: &[u16], point: u16) -> Ends
+// The first and the last dart of a mask's lines that leave a point.
+pub fn seen(lines: u16, point: u16) -> Ends
     requires { ⌜ dart point 3 < mark ⌝ }
-    ensures { λ r. ⌜
-        (r .first ≡ dart point (low (mask (on (now (table .entry))) point))) ×
-        (r .last ≡ dart point (high (mask (on (now (table .entry))) point)))
-        ⌝ }
+    ensures { λ r. ⌜ (r .first ≡ dart point (low lines)) × (r .last ≡ dart point (high lines)) ⌝ }
 {
-    let lines = mask(table, point);
     Ends {
         first: 4 * point + low(lines),
         last: 4 * point + high(lines),

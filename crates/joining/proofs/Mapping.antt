@@ -18,8 +18,8 @@ use Rattle.paper.specs.Joining.{Links, at, on}
 use Rattle.theory.proofs.Sheet.{sheet, lines-map, sheet-chart, sheet-few}
 use Rattle.theory.proofs.Kept.{sheet-loops}
 use Rattle.theory.proofs.Removed.{Reads, on-links}
-use Rattle.theory.proofs.Drawn.{drawn-reads, level-reads}
-use Rattle.sharing.specs.Mapped.{Mapped}
+use Rattle.theory.proofs.Drawn.{drawn-reads, drawn-held, level-reads}
+use Rattle.sharing.specs.Mapped.{Mapped, Bare}
 
 module _ {w h : ℕ} {x : Map} {l : Links} {s : List ℕ} (c : Chart x) (r : Reads w h x l s) (room : slots w h ≤ mark) where
   open Map x using (nx, rev)
@@ -60,3 +60,14 @@ module _ (w h : ℕ) (n : List ℕ) (room : slots w h ≤ mark) where
       let c = sheet-chart w h n in
       let o = sheet-loops w h n in
       reads-mapped (level-chart c (o .covers) (loops-passes c (sheet-few w h n) o)) (level-reads w h n) room
+
+  -- and a dart that has no next at level 3 has no other there
+  pub curves-bare : Bare (drawn w h n .next3) (drawn w h n .other3)
+  unfolding links
+  curves-bare =
+      let c = sheet-chart w h n in
+      let o = sheet-loops w h n in
+      let l = level-chart c (o .covers) (loops-passes c (sheet-few w h n) o) in
+      record {
+        none = λ d e. drawn-held w h n .over .others d ∙ rw (sym (on-next l (level-reads w h n) room d) ∙ e);
+      }

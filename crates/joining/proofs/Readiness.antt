@@ -15,10 +15,10 @@ use Rattle.paper.specs.Refusal.{stated, used}
 use Rattle.theory.proofs.Sheet.{border-below}
 use Rattle.theory.proofs.Marks.{on-marked, cells-slots, within-fits, names-side-small}
 use Rattle.lengths.proofs.Tested.{stated-parent}
-use Rattle.sharing.specs.Mapped.{Mapped}
+use Rattle.sharing.specs.Mapped.{Mapped, Bare}
 use Rattle.joining.specs.Apply.{Ready}
 use Rattle.joining.proofs.Fewer.{marked-held, on-below}
-use Rattle.joining.proofs.Mapping.{plain-mapped, curves-mapped}
+use Rattle.joining.proofs.Mapping.{plain-mapped, curves-mapped, curves-bare}
 
 -- every line of a drawing has its sides
 drawing-sided : (w h : ℕ) (s : List ℕ) → within w h ≡ true → (d : ℕ) → on (drawing w h s .next1) d ≡ true
@@ -41,6 +41,10 @@ drawing-curves : (w h : ℕ) (s : List ℕ) → within w h ≡ true
 unfolding drawing
 drawing-curves w h s e = curves-mapped w h (names w h s) (within-fits w h e)
 
+drawing-bare : (w h : ℕ) (s : List ℕ) → within w h ≡ true → Bare (drawing w h s .next3) (drawing w h s .other3)
+unfolding drawing
+drawing-bare w h s e = curves-bare w h (names w h s) (within-fits w h e)
+
 -- a name that is in use is below the mark
 used-small : (w h : ℕ) (t : Tables) (ws : List (List ℕ)) (a : ℕ) → within w h ≡ true → stated w h t ws ≡ true
     → used t a ≡ true → a < mark
@@ -59,4 +63,5 @@ drawn-ready w h t ws a b e f g u v =
       sided = rw (← (g .same)) (drawing-sided w h (g .labels) e);
       plain = rw (← (g .same)) (drawing-plain w h (g .labels) e);
       curves = rw (← (g .same)) (drawing-curves w h (g .labels) e);
+      bare = rw (← (g .same)) (drawing-bare w h (g .labels) e);
     }

@@ -1,6 +1,7 @@
 -- Joining, as it is done in the tables.
 --   Ready w h t ws a b == the size is one, the tables t and the work tables ws have the stated lengths, a and b may be
---                      names, every dart that has a next has a side, and the links of both levels are those of maps
+--                      names, every dart that has a next has a side, the links of both levels are those of maps, and at
+--                      level 3 a dart that has no next has no other
 use mathlib.Core.Path.{_≡_}
 use mathlib.Core.Bool.{true}
 use mathlib.Core.List.{List}
@@ -11,7 +12,7 @@ use Rattle.plane.specs.Dart.{mark, slots, reversal}
 use Rattle.paper.specs.Drawing.{Tables}
 use Rattle.paper.specs.Joining.{on}
 use Rattle.paper.specs.Refusal.{stated}
-use Rattle.sharing.specs.Mapped.{Mapped}
+use Rattle.sharing.specs.Mapped.{Mapped, Bare}
 
 pub record Ready (w h : ℕ) (t : Tables) (ws : List (List ℕ)) (a b : ℕ) : Type 0 where
   pub size : within w h ≡ true
@@ -21,3 +22,4 @@ pub record Ready (w h : ℕ) (t : Tables) (ws : List (List ℕ)) (a b : ℕ) : T
   pub sided : (d : ℕ) → on (t .next1) d ≡ true → on (t .side1) d ≡ true
   pub plain : Mapped (t .side1) (t .next1) (table (slots w h) (reversal w))
   pub curves : Mapped (t .side1) (t .next3) (t .other3)
+  pub bare : Bare (t .next3) (t .other3)

@@ -34,7 +34,8 @@ fn settle_curves(
     top: &mut [u16],
 )
     requires { ⌜
-        (within width height ≡ true) × (length (now lines) ≡ slots width height) ×
+        (within width height ≡ true) × (length (now before) ≡ slots width height) ×
+        (length (now lines) ≡ slots width height) × (length (now next) ≡ slots width height) ×
         (length (now top) ≡ points width height)
         ⌝ }
     ensures { λ _. ⌜
@@ -66,8 +67,8 @@ fn settle(
 )
     requires { ⌜
         (within width height ≡ true) × (length (now lines) ≡ slots width height) ×
-        (length (now side) ≡ slots width height) × (length (now parents) ≡ width * height + 1) ×
-        (length (now top) ≡ points width height)
+        (length (now side) ≡ slots width height) × (length (now next) ≡ slots width height) ×
+        (length (now parents) ≡ width * height + 1) × (length (now top) ≡ points width height)
         ⌝ }
     ensures { λ _. ⌜
         (links (now (next .exit)) (now (other .exit)) ≡

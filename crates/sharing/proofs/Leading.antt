@@ -17,14 +17,13 @@ use Rattle.laws.proofs.Test.{clash}
 use Rattle.plane.specs.Dart.{mark, slots}
 use Rattle.paper.specs.Level.{marked}
 use Rattle.paper.specs.Joining.{Links, at, on, shared, chase, removed}
-use Rattle.table.specs.Trim.{trimmed}
 use Rattle.table.proofs.Entries.{at-in, at-entry, at-out, on-mark}
 use Rattle.table.proofs.Half.{Half, half-here}
 use Rattle.removal.specs.Links.{links}
 use Rattle.lists.specs.Listed.{bounds, Bounded}
 use Rattle.chasing.specs.Led.{leaping, led}
 use Rattle.chasing.proofs.Chasing.{leaps-on, leaps-not, chase-still, chase-leaps, chase-four, led-keeps, led-past}
-use Rattle.sharing.specs.Mapped.{Mapped}
+use Rattle.sharing.specs.Mapped.{Mapped, Bare}
 use Rattle.sharing.proofs.Sharing.{shared-past, away-apart, shared-other}
 
 -- an entry that is off is the mark, and one that is on lies in the table
@@ -56,6 +55,23 @@ unlisted-keeps s n o a b m f t g d e = go (bounds s a b d) (on n d) refl refl
     go false y p q = away-keeps s o a b (at n d) d p
     go true true p q = clash (g .all d p q) e
     go true false p q = off-keeps (shared s o a b d) (at n d) (off-mark n d q)
+
+-- a list of the darts that have a next has those that have an other
+pub bare-bounded : (s n o : List ℕ) (a b m f : ℕ) (t : List ℕ) → Bare n o → Bounded s n a b m f t → Bounded s o a b m f t
+bare-bounded s n o a b m f t r g =
+    record { test = g .test; list = g .list; all = λ d e h. g .all d e (go d h (on n d) refl) }
+  where
+    go : (d : ℕ) → on o d ≡ true → (x : Bool) → on n d ≡ x → on n d ≡ true
+    go d h true q = q
+    go d h false q = clash h (on-mark o d (r .none d q))
+
+-- whether a dart has the sides a and b is told by its own other alone
+pub unpair-here : (s o u : List ℕ) (a b d r : ℕ) → d < length u → at o d ≡ getD u d 0
+    → r ≡ cond (shared s (at u) a b d) mark (getD u d 0) → r ≡ cond (shared s (at o) a b d) mark (at o d)
+unfolding shared
+unpair-here s o u a b d r h e f =
+    let same : at u d ≡ at o d = at-entry u d h ∙ sym e in
+    f ∙ rw (same, ← e)
 
 pub unlink-here : (s : List ℕ) (o : ℕ → ℕ) (a b d x y r : ℕ) → x ≡ y → r ≡ cond (shared s o a b d) mark y
     → r ≡ cond (shared s o a b d) mark x
@@ -195,18 +211,6 @@ module _ (s n o : List ℕ) (a b : ℕ) (p : a < mark) (q : b < mark) (fit : len
     abbrev left : ℕ → ℕ
     left d = cond (rest d) (chase l gone (at n d)) mark
 
-    left-on : slots w h ≤ mark → (d : ℕ) → not (eqb (left d) mark) ≡ rest d
-    unfolding rest
-    left-on room d = go (on n d) (gone d) refl
-      where
-        go : (x y : Bool) → on n d ≡ x
-            → not (eqb (cond (x && not y) (chase l gone (at n d)) mark) mark) ≡ (x && not y)
-        go true true e = ap not (eq-eqb mark mark refl)
-        go true false e =
-            let u = on-inside n _ (chase-on (at n d) (m .stays d e)) in
-            ap not (ne-eqb _ mark (λ z. omega arith))
-        go false y e = ap not (eq-eqb mark mark refl)
-
     led-left : (d : ℕ) → cond (gone d) mark (led s l a b d) ≡ left d
     unfolding rest led
     led-left d = go (on n d) (gone d) refl
@@ -226,15 +230,16 @@ module _ (s n o : List ℕ) (a b : ℕ) (p : a < mark) (q : b < mark) (fit : len
         (table-agree (slots w h) _ left
         (λ d c. ap (cond (gone d) mark) (getD-table (slots w h) (led s l a b) d mark c) ∙ led-left d))
 
-    pub removed-others : slots w h ≤ mark → length o ≡ slots w h → (n₂ o₂ : List ℕ) → n₂ ≡ removed w h l gone .next
-        → o₂ ≡ trimmed n₂ o → links n₂ o₂ ≡ removed w h l gone
-    unfolding removed marked trimmed on at rest
-    removed-others room longs n₂ o₂ e f = rw (e, others)
+    pub removed-others : Bare n o → (i : ℕ) (n₂ o₂ : List ℕ) → i ≡ slots w h → n₂ ≡ removed w h l gone .next
+        → o₂ ≡ table i (λ d. cond (gone d) mark (at o d)) → links n₂ o₂ ≡ removed w h l gone
+    unfolding removed marked rest
+    removed-others r i n₂ o₂ u e f = rw (e, others)
       where
+        go : (d : ℕ) (x y : Bool) → on n d ≡ x → cond y mark (at o d) ≡ cond (x && not y) (at o d) mark
+        go d true true q = refl
+        go d true false q = refl
+        go d false true q = refl
+        go d false false q = r .none d q
+
         others : o₂ ≡ table (slots w h) (λ d. cond (rest d) (at o d) mark)
-        others =
-            f ∙ rw (longs, e)
-            (table-agree (slots w h) _ _
-            (λ d c.
-            ap (λ z. cond z (at o d) mark)
-            (ap (λ x. not (eqb x mark)) (getD-table (slots w h) left d mark c) ∙ left-on room d)))
+        others = f ∙ rw u (table-agree (slots w h) _ _ (λ d c. go d (on n d) (gone d) refl))

@@ -1,5 +1,4 @@
 use removal::back;
-use table::entry;
 ghost use mathlib.Core.Path.{_≡_};
 ghost use mathlib.Core.Bool.{true, cond};
 ghost use Prim.Native.Nat.{_≤_, _<_};
@@ -11,7 +10,7 @@ ghost use Rattle.paper.specs.Joining.{at, shared, removed};
 ghost use Rattle.removal.specs.Links.{links};
 ghost use Rattle.lists.specs.Listed.{Bounded};
 ghost use Rattle.chasing.specs.Led.{led};
-ghost use Rattle.sharing.specs.Mapped.{Mapped};
+ghost use Rattle.sharing.specs.Mapped.{Mapped, Bare};
 
 // The next of every dart, past the darts with the sides a and b, which keep theirs.
 fn lead(side: &[u16], other: &[u16], a: u16, b: u16, first: u16, list: &[u16], next: &mut [u16])
@@ -52,6 +51,27 @@ fn unlink(side: &[u16], other: &[u16], a: u16, b: u16, first: u16, list: &[u16],
     let mut dart = first;
     while dart < n {
         next[dart as usize] = chasing::next_left(side, other, a, b, next[dart as usize], dart);
+        dart = list[dart as usize];
+    }
+}
+
+// The darts with the sides a and b have no other any more.
+fn unpair(side: &[u16], a: u16, b: u16, first: u16, list: &[u16], other: &mut [u16])
+    requires { ⌜
+        (length (now other) ≤ mark) × (length (now side) ≡ length (now other)) ×
+        (length (now list) ≡ length (now other)) ×
+        Bounded (now side) (now other) a b (length (now other)) first (now list)
+        ⌝ }
+    ensures { λ _. ⌜
+        now (other .exit) ≡
+        table (length (now (other .entry)))
+        (λ d. cond (shared (now (side .entry)) (at (now (other .entry))) a b d) mark (at (now (other .entry)) d))
+        ⌝ }
+{
+    let n = other.len() as u16;
+    let mut dart = first;
+    while dart < n {
+        other[dart as usize] = chasing::next_left(side, other, a, b, other[dart as usize], dart);
         dart = list[dart as usize];
     }
 }
@@ -102,7 +122,7 @@ pub fn remove_shared(
         (length (now list) ≡ slots width height) × (length (now next) ≡ slots width height) ×
         (length (now other) ≡ slots width height) ×
         Bounded (now side) (now next) a b (slots width height) first (now list) ×
-        Mapped (now side) (now next) (now other)
+        Mapped (now side) (now next) (now other) × Bare (now next) (now other)
         ⌝ }
     ensures { λ _. ⌜
         links (now (next .exit)) (now (other .exit)) ≡
@@ -111,7 +131,7 @@ pub fn remove_shared(
         ⌝ }
 {
     remove_nexts(width, height, side, other, a, b, first, list, next);
-    entry::trim(next, other);
+    unpair(side, a, b, first, list, other);
 }
 
 // Step 1 at level 1, where the other of a dart is its reversal. Back is work: it is left with the reversals.

@@ -1,7 +1,7 @@
 -- Step 3: a point that two darts alone leave, of two different edges.
 --   splice l u v    == the links without darts u and v, where they are of two different edges
 --   smooth l p      == the links without point p, where two darts of two different edges alone leave it
-use mathlib.Core.Path.{_≡_, refl, sym, _∙_}
+use mathlib.Core.Path.{_≡_, refl, sym, _∙_, ap}
 use mathlib.Core.Bool.{Bool, true, false}
 use mathlib.Core.List.{List}
 use Prim.Native.Nat.{ℕ, zero, suc}
@@ -39,33 +39,36 @@ module _ (l : Links) (u v : ℕ) where
   unfolding splice
   splice-edges x y e n f = rw (e, f, ne-eqb (at (l .other) u) v (λ q. n (e ∙ q)), splice)
 
--- a point is treated by whether two darts are seen there
-module _ (l : Links) (p : ℕ) (c : Bool) (s : c ≡ eqb (degree (mask (on (l .next)) p)) 2) where
+-- a point with the lines m is treated by whether they are two
+module _ (l : Links) (p m : ℕ) (q : m ≡ mask (on (l .next)) p) (c : Bool) (s : c ≡ eqb (degree m) 2) where
+  abbrev lines : ℕ
+  lines = mask (on (l .next)) p
+
+  counted : c ≡ eqb (degree lines) 2
+  counted = s ∙ ap (λ i. eqb (degree i) 2) q
+
   pub smooth-other : c ≡ false → l ≡ smooth l p
   unfolding smooth
-  smooth-other n = rw (sym s ∙ n, smooth)
+  smooth-other n = rw (sym counted ∙ n, smooth)
 
-  pub smooth-two : c ≡ true → (u v : ℕ) → u ≡ dart p (low (mask (on (l .next)) p))
-      → v ≡ dart p (high (mask (on (l .next)) p)) → splice l u v ≡ smooth l p
+  pub smooth-two : c ≡ true → (u v : ℕ) → u ≡ dart p (low m) → v ≡ dart p (high m) → splice l u v ≡ smooth l p
   unfolding smooth
-  smooth-two e u v f g = rw (f, g) (go (eqb x y) refl)
+  smooth-two e u v f g = rw (f, g, q) (go (eqb x y) refl)
     where
-      m : ℕ
-      m = mask (on (l .next)) p
-
       x : ℕ
-      x = at (l .other) (dart p (low m))
+      x = at (l .other) (dart p (low lines))
 
       y : ℕ
-      y = dart p (high m)
+      y = dart p (high lines)
 
-      two : eqb (degree m) 2 ≡ true
-      two = sym s ∙ e
+      two : eqb (degree lines) 2 ≡ true
+      two = sym counted ∙ e
 
-      go : (b : Bool) → eqb x y ≡ b → splice l (dart p (low m)) y ≡ smooth l p
-      go true q = sym (splice-loop l (dart p (low m)) y x refl (eqb-true x y q)) ∙ rw (two, q, smooth)
-      go false q =
-          sym (splice-edges l (dart p (low m)) y x (at (l .other) y) refl (eqb-false x y q) refl) ∙ rw (two, q, smooth)
+      go : (b : Bool) → eqb x y ≡ b → splice l (dart p (low lines)) y ≡ smooth l p
+      go true r = sym (splice-loop l (dart p (low lines)) y x refl (eqb-true x y r)) ∙ rw (two, r, smooth)
+      go false r =
+          sym (splice-edges l (dart p (low lines)) y x (at (l .other) y) refl (eqb-false x y r) refl)
+          ∙ rw (two, r, smooth)
 
 pub smooths-none : (p : ℕ) (l : Links) → smooths zero p l ≡ l
 unfolding smooths

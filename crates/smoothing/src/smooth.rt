@@ -4,8 +4,9 @@ ghost use mathlib.Core.Path.{_≡_};
 ghost use mathlib.Core.Bool.{true};
 ghost use mathlib.Core.List.{List};
 ghost use Prim.Native.Nat.{ℕ, _<_};
+ghost use lib.ListN.{length};
 ghost use Rattle.limits.specs.Size.{within};
-ghost use Rattle.plane.specs.Dart.{mark, dart};
+ghost use Rattle.plane.specs.Dart.{mark, slots, dart};
 ghost use Rattle.rules.specs.Turn.{pointTable};
 ghost use Rattle.paper.specs.Joining.{spliced, smooth, smoothed};
 ghost use Rattle.removal.specs.Links.{links, splice};
@@ -48,16 +49,26 @@ fn smooth_edge(next: &mut [u16], other: &mut [u16], u: u16, v: u16)
 }
 
 // A point goes where two darts of two different edges alone leave it. Before has entries for the lines before the join.
-fn smooth_point(outcomes: &[u16; 256], before: &[u16], next: &mut [u16], other: &mut [u16], point: u16)
-    requires { ⌜ (now outcomes ≡ pointTable) × (dart point 3 < mark) ⌝ }
+fn smooth_point(
+    outcomes: &[u16; 256],
+    before: &[u16],
+    next: &mut [u16],
+    other: &mut [u16],
+    point: u16,
+)
+    requires { ⌜
+        (now outcomes ≡ pointTable) × (dart point 3 < mark) × (dart point 3 < length (now before)) ×
+        (dart point 3 < length (now next))
+        ⌝ }
     ensures { λ _. ⌜
         links (now (next .exit)) (now (other .exit)) ≡ smooth (links (now (next .entry)) (now (other .entry))) point
         ⌝ }
 {
-    if !ends::two(outcomes, before, next, point) {
+    let left = ends::mask(next, point);
+    if !ends::two(outcomes, ends::mask(before, point), left) {
         return;
     }
-    let seen = ends::seen(next, point);
+    let seen = ends::seen(left, point);
     smooth_edge(next, other, seen.first, seen.last);
 }
 
@@ -71,7 +82,10 @@ pub fn smooth(
     next: &mut [u16],
     other: &mut [u16],
 )
-    requires { ⌜ (within width height ≡ true) × (now outcomes ≡ pointTable) ⌝ }
+    requires { ⌜
+        (within width height ≡ true) × (now outcomes ≡ pointTable) × (length (now before) ≡ slots width height) ×
+        (length (now next) ≡ slots width height)
+        ⌝ }
     ensures { λ _. ⌜
         links (now (next .exit)) (now (other .exit)) ≡
         smoothed width height (links (now (next .entry)) (now (other .entry)))

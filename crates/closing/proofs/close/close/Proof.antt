@@ -36,7 +36,8 @@ close-point-requires c κs =
     let i = c .before .before in
     let q = i .before .before .before .before .before .before .before .pre in
     let b = i .loop-test .taken in
-    (q .1, darts-fit _ _ (q .0) _ b .0, omega (arith, q .2), q .3)
+    let (fit, below) = darts-fit _ _ (q .0) _ b in
+    (q .1, fit, rw (q .2) below, rw (q .3) below, rw (i .before .loop .inv .nexts, q .4) below, omega (arith, q .5), q .6)
 
 add-p : tie.Need-add-p Inv-loop μ-loop
 unfolding points

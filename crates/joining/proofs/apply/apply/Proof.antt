@@ -113,6 +113,7 @@ remove-shared-requires c κs =
       z .lines .3,
       bounded-on _ _ _ _ _ _ _ (rw (list-long l) at (m .narrow .ensures (lined-bounds l))),
       q .curves,
+      q .bare,
     )
 
 add-n : tie.Need-add-n
@@ -138,12 +139,18 @@ slice-aggregate-settle c = sym (length-take-le _ _ (work-room (narrowed (c .befo
 settle-requires : tie.Need-settle-requires
 unfolding points
 settle-requires c κs =
-    let m = narrowed (c .before .before .before .before .before .before .before .before .before .before) in
+    let e = c .before .before .before .before .before .before .before .before .before .before in
+    let m = narrowed e in
     let p = plain m in
     let q = start (listed p) .pre in
-    let z = stated-long _ _ _ _ _ _ _ _ _ _ _ (q .sizes) in
-    let k = p .remove-plain-shared .kept .1 .1 .1 .1 .1 .1 .1 .0 in
-    (q .size, k ∙ z .lines .0, z .lines .1, z .names, length-take-le _ _ (work-room m))
+    let z = stated-long _ _ _ _ _ _ _ _ _ _ _ (q .sizes) in (
+      q .size,
+      p .remove-plain-shared .kept .1 .1 .1 .1 .1 .1 .1 .0 ∙ z .lines .0,
+      z .lines .1,
+      e .remove-shared .kept .1 .1 .1 .1 .1 .1 .1 .0 ∙ z .lines .2,
+      z .names,
+      length-take-le _ _ (work-room m),
+    )
 
 clear-four-requires : tie.Need-clear-four-requires
 clear-four-requires c κs = tt

@@ -25,7 +25,7 @@ find-parents-requires c κs =
     let k = curved (c .before .before .before .before .before) in
     let q = start k .pre in
     let s = k .settle-curves in
-    (q .0, s .kept .1 .1 .1 .1 .1 .1 .0 ∙ q .4, tops-rising _ _ _ _ (s .ensures .1), q .3)
+    (q .0, s .kept .1 .1 .1 .1 .1 .1 .0 ∙ q .5, tops-rising _ _ _ _ (s .ensures .1), q .4)
 
 same-length : tie.Need-same-length
 same-length c = search needs

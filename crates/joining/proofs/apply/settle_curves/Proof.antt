@@ -26,14 +26,23 @@ point-table-requires c κs = tt
 smooth-requires : tie.Need-smooth-requires
 smooth-requires c κs =
     let t = c .before .before .before in
-    (start (topped t) .pre .0, t .point-table .ensures)
+    let q = start (topped t) .pre in
+    (q .0, t .point-table .ensures, q .1, q .3)
 
 close-requires : tie.Need-close-requires
 close-requires c κs =
-    let t = tabled (c .before .before .before .before .before .before .before .before) in
+    let s = c .before .before .before .before .before .before .before .before in
+    let t = tabled s in
     let p = topped t in
-    let q = start p .pre in
-    (q .0, t .point-table .ensures, p .top-points .kept .1 .1 .1 .0 ∙ q .2, tops-rising _ _ _ _ (p .top-points .ensures))
+    let q = start p .pre in (
+      q .0,
+      t .point-table .ensures,
+      q .1,
+      q .2,
+      s .smooth .kept .1 .1 .1 .1 .0 ∙ q .3,
+      p .top-points .kept .1 .1 .1 .0 ∙ q .4,
+      tops-rising _ _ _ _ (p .top-points .ensures),
+    )
 
 same-length : tie.Need-same-length
 same-length c = search needs

@@ -35,7 +35,8 @@ unfolding points
 smooth-point-requires c κs =
     let i = c .before .before in
     let q = i .before .before .before .before .before .pre in
-    (q .1, darts-fit _ _ (q .0) _ (i .loop-test .taken) .0)
+    let (fit, below) = darts-fit _ _ (q .0) _ (i .loop-test .taken) in
+    (q .1, fit, rw (q .2) below, rw (i .before .loop .inv .nexts, q .3) below)
 
 add-p : tie.Need-add-p Inv-loop μ-loop
 unfolding points
