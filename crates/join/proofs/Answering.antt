@@ -29,7 +29,8 @@ use Rattle.verdict.proofs.Refusing.{accepted-within, accepted-stated, accepted-
 use Rattle.pairs.specs.declared.answer.Joined.{Joined}
 use Rattle.pairs.specs.Answer.{number, refused, named, asked}
 use Rattle.pairs.proofs.Asking.{Other, other-not-done, zero-done, done-asked}
-use Rattle.joining.specs.Apply.{Ready}
+use Rattle.lengths.specs.Given.{works}
+use Rattle.joining.specs.Apply.{pair, Ready}
 use Rattle.join.specs.Faithful.{Faithful}
 use Rattle.joining.proofs.Readiness.{drawn-ready}
 use Rattle.join.proofs.Afresh.{joined-faithful}
@@ -48,6 +49,12 @@ cleared-sized n (t ∷ ts) = ap₂ _&&_ (ap (λ k. eqb k n) (length-replicate (l
 cleared-stated : (w h : ℕ) (t : Tables) (ws : List (List ℕ)) → stated w h t (cleared ws) ≡ stated w h t ws
 unfolding stated
 cleared-stated w h t ws = rw cleared-sized
+
+-- where all four are cleared, and then the first two again
+rest-cleared : (a b c d x y : List ℕ) → works a b c d ≡ cleared (works a b c d) → pair x y ≡ cleared (pair a b)
+    → works x y c d ≡ cleared (works a b c d)
+unfolding cleared
+rest-cleared a b c d x y e f = cc
 
 -- The answer to the names, by its three tests.
 abbrev answers : Bool → Bool → Bool → Joined
@@ -167,12 +174,14 @@ module _ (w h : ℕ) (t : Tables) (a b : ℕ) (ws vs : List (List ℕ)) where
               neighbours = n;
             }
 
-        regions-joined : (u : Tables) (xs : List (List ℕ)) → u ≡ joined w h t a b → xs ≡ cleared vs
-            → Promised Joined.Done u xs
+        regions-joined : (c d e f x y : List ℕ) → vs ≡ works c d e f → (u : Tables) → u ≡ joined w h t a b
+            → pair x y ≡ cleared (pair c d) → Promised Joined.Done u (works x y e f)
         unfolding merged number outcome
-        regions-joined u xs p q =
+        regions-joined c d e f x y s u p q =
             let k = tested in
-            let l : xs ≡ cleared ws = q ∙ ap cleared work ∙ cleared-twice ws in (
+            let m : works c d e f ≡ cleared ws = sym s ∙ work in
+            let r : works c d e f ≡ cleared (works c d e f) = m ∙ sym (cleared-twice ws) ∙ ap cleared (sym m) in
+            let l : works x y e f ≡ cleared ws = rest-cleared c d e f x y r q ∙ ap cleared m ∙ cleared-twice ws in (
               rw (goes-on, k .0, k .1, k .2, n, p, l),
               λ z. joined-faithful w h t u a b size drawn regions-joinable p,
             )
@@ -207,5 +216,6 @@ module _ (w h : ℕ) (t : Tables) (a b : ℕ) (ws vs : List (List ℕ)) where
       pub asked-ready : Ready w h t vs a b
       asked-ready = regions-ready v (all .0) c (all .1)
 
-      pub asked-joined : (u : Tables) (xs : List (List ℕ)) → u ≡ joined w h t a b → xs ≡ cleared vs → Promised Joined.Done u xs
+      pub asked-joined : (c d e f x y : List ℕ) → vs ≡ works c d e f → (u : Tables) → u ≡ joined w h t a b
+          → pair x y ≡ cleared (pair c d) → Promised Joined.Done u (works x y e f)
       asked-joined = regions-joined v (all .0) c (all .1) (all .2)

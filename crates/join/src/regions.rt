@@ -74,8 +74,6 @@ pub fn join(
         parent,
         work_a,
         work_b,
-        work_c,
-        work_d,
     );
     Joined::Done
 }

@@ -4,17 +4,19 @@ use mathlib.Core.Path.{_≡_, sym, _∙_, ap}
 use mathlib.Core.Bool.{Bool, true, cond}
 use mathlib.Core.List.{List}
 use Prim.Native.Nat.{ℕ, _+_, _*_, _<_}
-use lib.ListN.{length}
+use lib.ListN.{length, replicate}
 use Rattle.laws.specs.Table.{table}
 use Rattle.laws.specs.Least.{lower}
 use Rattle.plane.specs.Dart.{mark, points, slots, reversal}
 use Rattle.paper.specs.Level.{tops, marked}
 use Rattle.paper.specs.Enclosure.{parent, parents}
 use Rattle.paper.specs.Joining.{Links, at, on, shared, removed, rest1, rest3, smoothed, closes, closed, joined}
+use Rattle.paper.specs.Refusal.{cleared}
 use Rattle.theory.proofs.Piece.{tops-le}
 use Rattle.lengths.specs.Given.{tables}
 use Rattle.enclosure.specs.Tops.{Rising}
 use Rattle.removal.specs.Links.{links}
+use Rattle.joining.specs.Apply.{pair}
 use Rattle.joining.proofs.Fewer.{removed-fewer, on-lowered}
 
 -- Steps 3 and 4.
@@ -56,3 +58,9 @@ module _ (w h a b : ℕ) (n s m o p : List ℕ) (u : a < mark) (v : b < mark) (l
   pub all-steps : tables n₁ s₁ m₁ o₁ p₁ ≡ joined w h (tables n s m o p) a b
   unfolding joined rest1 rest3
   all-steps = rw (← plain, ← sides, ← curves, ← settled, ← named)
+
+-- two work tables cleared
+pub pair-cleared : (x y u v : List ℕ) (i j : ℕ) → u ≡ replicate i 0 → v ≡ replicate j 0 → i ≡ length x → j ≡ length y
+    → pair u v ≡ cleared (pair x y)
+unfolding cleared
+pair-cleared x y u v i j e f p q = rw (e, f, p, q)

@@ -1,9 +1,13 @@
 -- A drawing is ready for the joining of two regions that it has.
-use mathlib.Core.Path.{_≡_, _∙_}
-use mathlib.Core.Bool.{true}
-use mathlib.Core.List.{List}
-use Prim.Native.Nat.{ℕ, _<_}
+use mathlib.Core.Path.{_≡_, refl, _∙_}
+use mathlib.Core.Bool.{Bool, true, false, _&&_}
+use mathlib.Core.List.{List, [], _∷_}
+use Prim.Native.Nat.{ℕ, _+_, _*_, _<_}
 use native.Mathlib.Omega.{arith}
+use lib.Dec.{eqb}
+use lib.ListN.{length}
+use borrow.Author.Tests.{eq-eqb}
+use Rattle.laws.proofs.Test.{and-true, and-left, and-right}
 use Rattle.limits.specs.Size.{within}
 use Rattle.laws.specs.Table.{table}
 use Rattle.plane.specs.Dart.{mark, slots, reversal}
@@ -11,12 +15,13 @@ use Rattle.paper.specs.Name.{names}
 use Rattle.paper.specs.Level.{side, border, next, plain, level}
 use Rattle.paper.specs.Drawing.{Tables, drawn, drawing, Drawn}
 use Rattle.paper.specs.Joining.{on}
-use Rattle.paper.specs.Refusal.{stated, used}
+use Rattle.paper.specs.Refusal.{sized, stated, used}
 use Rattle.theory.proofs.Sheet.{border-below}
 use Rattle.theory.proofs.Marks.{on-marked, cells-slots, within-fits, names-side-small}
-use Rattle.lengths.proofs.Tested.{stated-parent}
+use Rattle.lengths.specs.Given.{tables, works}
+use Rattle.lengths.proofs.Tested.{Long, stated-long, stated-parent}
 use Rattle.sharing.specs.Mapped.{Mapped, Bare}
-use Rattle.joining.specs.Apply.{Ready}
+use Rattle.joining.specs.Apply.{pair, Ready}
 use Rattle.joining.proofs.Fewer.{marked-held, on-below}
 use Rattle.joining.proofs.Mapping.{plain-mapped, curves-mapped, curves-bare}
 
@@ -64,4 +69,42 @@ drawn-ready w h t ws a b e f g u v =
       plain = rw (← (g .same)) (drawing-plain w h (g .labels) e);
       curves = rw (← (g .same)) (drawing-curves w h (g .labels) e);
       bare = rw (← (g .same)) (drawing-bare w h (g .labels) e);
+    }
+
+-- Two work tables, the first of four.
+first-thrice : (e d : Bool) → (e && d) ≡ true → (e && (e && (e && d))) ≡ true
+first-thrice true d h = h
+first-thrice false d h = h
+
+-- the five tables have the stated lengths
+abbrev five-stated : ℕ → ℕ → Tables → Bool
+five-stated w h t =
+    sized (slots w h) (t .next1 ∷ t .side1 ∷ t .next3 ∷ t .other3 ∷ []) && sized (w * h + 1) (t .parent ∷ [])
+
+pub pair-long : (w h : ℕ) (x s y o p a d : List ℕ) → stated w h (tables x s y o p) (pair a d) ≡ true
+    → Long w h (length x) (length s) (length y) (length o) (length p) (length a) (length a) (length a) (length d)
+unfolding stated sized
+pair-long w h x s y o p a d e =
+    let five = five-stated w h (tables x s y o p) in
+    let both : Bool = sized (slots w h) (pair a d) in
+    stated-long w h x s y o p a a a d
+    (and-true {a = five} (and-left five both e)
+    (first-thrice (eqb (length a) (slots w h)) (eqb (length d) (slots w h) && true) (and-right five both e)))
+
+pub ready-pair : (w h : ℕ) (x s y o p a b c d : List ℕ) (i j : ℕ) → Ready w h (tables x s y o p) (works a b c d) i j
+    → Ready w h (tables x s y o p) (pair a b) i j
+unfolding stated sized
+ready-pair w h x s y o p a b c d i j r =
+    let five = five-stated w h (tables x s y o p) in
+    let z = stated-long w h x s y o p a b c d (r .sizes) .work in
+    record {
+      size = r .size;
+      sizes = and-true {a = five} (and-left five (sized (slots w h) (works a b c d)) (r .sizes))
+          (and-true (eq-eqb _ _ (z .0)) (and-true (eq-eqb _ _ (z .1)) refl));
+      first = r .first;
+      second = r .second;
+      sided = r .sided;
+      plain = r .plain;
+      curves = r .curves;
+      bare = r .bare;
     }

@@ -1,10 +1,11 @@
 -- Joining, as it is done in the tables.
+--   pair x y        == two work tables
 --   Ready w h t ws a b == the size is one, the tables t and the work tables ws have the stated lengths, a and b may be
 --                      names, every dart that has a next has a side, the links of both levels are those of maps, and at
 --                      level 3 a dart that has no next has no other
 use mathlib.Core.Path.{_≡_}
 use mathlib.Core.Bool.{true}
-use mathlib.Core.List.{List}
+use mathlib.Core.List.{List, [], _∷_}
 use Prim.Native.Nat.{ℕ, _<_}
 use Rattle.limits.specs.Size.{within}
 use Rattle.laws.specs.Table.{table}
@@ -13,6 +14,9 @@ use Rattle.paper.specs.Drawing.{Tables}
 use Rattle.paper.specs.Joining.{on}
 use Rattle.paper.specs.Refusal.{stated}
 use Rattle.sharing.specs.Mapped.{Mapped, Bare}
+
+abbrev pub pair : List ℕ → List ℕ → List (List ℕ)
+pair x y = x ∷ y ∷ []
 
 pub record Ready (w h : ℕ) (t : Tables) (ws : List (List ℕ)) (a b : ℕ) : Type 0 where
   pub size : within w h ≡ true

@@ -18,9 +18,9 @@ ghost use Rattle.paper.specs.Level.{tops};
 ghost use Rattle.paper.specs.Enclosure.{parent};
 ghost use Rattle.paper.specs.Joining.{at, on, smoothed, closed, joined};
 ghost use Rattle.paper.specs.Refusal.{cleared};
-ghost use Rattle.lengths.specs.Given.{tables, works};
+ghost use Rattle.lengths.specs.Given.{tables};
 ghost use Rattle.removal.specs.Links.{links};
-ghost use Rattle.joining.specs.Apply.{Ready};
+ghost use Rattle.joining.specs.Apply.{pair, Ready};
 
 // Steps 3 and 4 at level 3: points go, and closed curves move to their anchors. Before has entries for the lines before the
 // join, lines for those that remain; the tops of their pieces are left in top.
@@ -87,8 +87,8 @@ fn settle(
     parent::find_parents(width, height, side, top, parents);
 }
 
-// Joining of the regions a and b by the removal rule, in the five tables of a drawing. The work tables are left with
-// every entry 0.
+// Joining of the regions a and b by the removal rule, in the five tables of a drawing. Back and list are work tables, which
+// are left with every entry 0.
 pub fn apply(
     width: u16,
     height: u16,
@@ -99,14 +99,12 @@ pub fn apply(
     next3: &mut [u16],
     other3: &mut [u16],
     parent: &mut [u16],
-    work_a: &mut [u16],
-    work_b: &mut [u16],
-    work_c: &mut [u16],
-    work_d: &mut [u16],
+    back: &mut [u16],
+    list: &mut [u16],
 )
     requires { ⌜
         Ready width height (tables (now next1) (now side1) (now next3) (now other3) (now parent))
-        (works (now «work_a») (now «work_b») (now «work_c») (now «work_d»))
+        (pair (now back) (now list))
         a
         b
         ⌝ }
@@ -117,15 +115,13 @@ pub fn apply(
         (now (parent .entry)))
         a
         b) ×
-        (works (now («work_a» .exit)) (now («work_b» .exit)) (now («work_c» .exit)) (now («work_d» .exit)) ≡
-        cleared
-        (works (now («work_a» .entry)) (now («work_b» .entry)) (now («work_c» .entry)) (now («work_d» .entry))))
+        (pair (now (back .exit)) (now (list .exit)) ≡ cleared (pair (now (back .entry)) (now (list .entry))))
         ⌝ }
 {
-    let first = lists::list_darts(side1, a, b, work_d);
-    shared::remove_plain_shared(width, height, side1, a, b, first, work_d, next1, work_a);
-    let first3 = lists::narrow(next3, first, work_d);
-    shared::remove_shared(width, height, side1, a, b, first3, work_d, next3, other3);
+    let first = lists::list_darts(side1, a, b, list);
+    shared::remove_plain_shared(width, height, side1, a, b, first, list, next1, back);
+    let first3 = lists::narrow(next3, first, list);
+    shared::remove_shared(width, height, side1, a, b, first3, list, next3, other3);
     let n = ((width + 1) * (height + 1)) as usize;
     settle(
         width,
@@ -137,7 +133,8 @@ pub fn apply(
         next3,
         other3,
         parent,
-        &mut work_d[..n],
+        &mut list[..n],
     );
-    entry::clear_four(work_a, work_b, work_c, work_d);
+    entry::clear(back);
+    entry::clear(list);
 }

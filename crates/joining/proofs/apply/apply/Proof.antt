@@ -1,4 +1,4 @@
-use mathlib.Core.Path.{_≡_, refl, sym, _∙_}
+use mathlib.Core.Path.{_≡_, sym, _∙_}
 use Prim.Native.Nat.{_+_, _*_, _≤_}
 use native.Mathlib.Omega.{arith}
 use lib.ListN.{length}
@@ -7,17 +7,16 @@ use Rattle.plane.specs.Dart.{points, slots}
 use Rattle.limits.proofs.Limit.{within-limits}
 use Rattle.plane.proofs.Fit.{points-fit}
 use Rattle.theory.proofs.Marks.{within-fits}
-use Rattle.table.proofs.Cleared.{cleared-same}
-use Rattle.lengths.proofs.Tested.{stated-long}
 use Rattle.lists.specs.Listed.{bounds, Lined}
 use Rattle.lists.proofs.Listing.{bounded-all, bounded-on}
-use Rattle.joining.proofs.Applying.{all-steps}
+use Rattle.joining.proofs.Applying.{all-steps, pair-cleared}
+use Rattle.joining.proofs.Readiness.{pair-long}
 use Rattle.joining.proofs.apply.apply.Statement.{statement}
 use Rattle.joining.proofs.apply.apply.Tie as tie
 
 -- From each call back to the call before it, and to the start.
 abbrev start : tie.After-list-darts → tie.Start
-start c = c .before .before .before .before .before .before .before .before .before .before .before .before
+start c = c .before .before .before .before .before .before .before .before .before .before
 
 abbrev listed : tie.After-remove-plain-shared → tie.After-list-darts
 listed c = c .before .before .before .before .before .before .before
@@ -31,17 +30,23 @@ narrowed c = c .before .before .before .before .before .before .before
 abbrev curved : tie.After-settle → tie.After-remove-shared
 curved c = c .before .before .before .before .before .before .before .before .before .before .before
 
-abbrev settled : tie.After-clear-four → tie.After-settle
-settled c = c .before .before .before .before .before .before .before .before .before .before .before .before .before .before .before
+abbrev settled : tie.After-clear → tie.After-settle
+settled c = c .before .before .before .before .before .before .before .before .before .before .before .before
 
-abbrev cleared : tie.After-slice-known24 → tie.After-clear-four
-cleared c = c .before .before .before .before .before .before .before .before
+abbrev backless : tie.After-clear2 → tie.After-clear
+backless c = c .before .before .before .before
+
+abbrev cleared : tie.After-slice-known20 → tie.After-clear2
+cleared c = c .before .before
+
+abbrev end : tie.After-slice-known20 → tie.After-settle
+end c = settled (backless (cleared c))
 
 -- The list is as long as the work table that it stands in, and has room for the tops.
 list-long : (c : tie.After-list-darts)
     → length (c .list-darts .last .1 .1 .1 .0) ≡ slots (start c .args .width) (start c .args .height)
 list-long c =
-    let z = stated-long _ _ _ _ _ _ _ _ _ _ _ (start c .pre .sizes) in
+    let z = pair-long _ _ _ _ _ _ _ _ _ (start c .pre .sizes) in
     c .list-darts .kept .1 .1 .1 .0 ∙ z .work .3
 
 -- It has the darts of a and b.
@@ -67,15 +72,15 @@ work-room c = omega (arith, narrow-long c)
 
 list-darts-requires : tie.Need-list-darts-requires
 list-darts-requires c κs =
-    let q = c .before .before .before .before .before .before .before .before .before .before .before .pre in
-    let z = stated-long _ _ _ _ _ _ _ _ _ _ _ (q .sizes) in
+    let q = c .before .before .before .before .before .before .before .before .before .pre in
+    let z = pair-long _ _ _ _ _ _ _ _ _ (q .sizes) in
     (z .lines .1 ∙ sym (z .work .3), omega (arith, z .work .3, within-fits _ _ (q .size)))
 
 remove-plain-shared-requires : tie.Need-remove-plain-shared-requires
 remove-plain-shared-requires c κs =
     let l = c .before .before .before .before .before .before in
     let q = start l .pre in
-    let z = stated-long _ _ _ _ _ _ _ _ _ _ _ (q .sizes) in (
+    let z = pair-long _ _ _ _ _ _ _ _ _ (q .sizes) in (
       q .size,
       q .first,
       q .second,
@@ -91,7 +96,7 @@ narrow-requires : tie.Need-narrow-requires
 narrow-requires c κs =
     let l = listed (c .before .before .before .before .before .before) in
     let q = start l .pre in
-    let z = stated-long _ _ _ _ _ _ _ _ _ _ _ (q .sizes) in
+    let z = pair-long _ _ _ _ _ _ _ _ _ (q .sizes) in
     let e = list-long l in (
       omega (arith, e, within-fits _ _ (q .size)),
       z .lines .2 ∙ sym e,
@@ -103,7 +108,7 @@ remove-shared-requires c κs =
     let m = c .before .before .before .before .before .before in
     let l = listed (plain m) in
     let q = start l .pre in
-    let z = stated-long _ _ _ _ _ _ _ _ _ _ _ (q .sizes) in (
+    let z = pair-long _ _ _ _ _ _ _ _ _ (q .sizes) in (
       within-fits _ _ (q .size),
       q .first,
       q .second,
@@ -143,7 +148,7 @@ settle-requires c κs =
     let m = narrowed e in
     let p = plain m in
     let q = start (listed p) .pre in
-    let z = stated-long _ _ _ _ _ _ _ _ _ _ _ (q .sizes) in (
+    let z = pair-long _ _ _ _ _ _ _ _ _ (q .sizes) in (
       q .size,
       p .remove-plain-shared .kept .1 .1 .1 .1 .1 .1 .1 .0 ∙ z .lines .0,
       z .lines .1,
@@ -152,69 +157,58 @@ settle-requires c κs =
       length-take-le _ _ (work-room m),
     )
 
-clear-four-requires : tie.Need-clear-four-requires
-clear-four-requires c κs = tt
+clear-requires : tie.Need-clear-requires
+clear-requires c κs = tt
+
+clear-requires-2 : tie.Need-clear-requires-2
+clear-requires-2 c κs = tt
 
 -- Each table keeps its length.
 same-length : tie.Need-same-length
-same-length c = plain (narrowed (curved (settled (cleared c)))) .remove-plain-shared .kept .1 .1 .1 .1 .1 .1 .1 .0
+same-length c = plain (narrowed (curved (end c))) .remove-plain-shared .kept .1 .1 .1 .1 .1 .1 .1 .0
 
 same-length-2 : tie.Need-same-length-2
-same-length-2 c = settled (cleared c) .settle .kept .1 .1 .1 .1 .1 .0
+same-length-2 c = end c .settle .kept .1 .1 .1 .1 .1 .0
 
 same-length-3 : tie.Need-same-length-3
-same-length-3 c =
-    let s = settled (cleared c) in
-    s .settle .kept .1 .1 .1 .1 .1 .1 .0 ∙ curved s .remove-shared .kept .1 .1 .1 .1 .1 .1 .1 .0
+same-length-3 c = end c .settle .kept .1 .1 .1 .1 .1 .1 .0 ∙ curved (end c) .remove-shared .kept .1 .1 .1 .1 .1 .1 .1 .0
 
 same-length-4 : tie.Need-same-length-4
-same-length-4 c =
-    let s = settled (cleared c) in
-    s .settle .kept .1 .1 .1 .1 .1 .1 .1 .0 ∙ curved s .remove-shared .kept .1 .1 .1 .1 .1 .1 .1 .1 .0
+same-length-4 c = end c .settle .kept .1 .1 .1 .1 .1 .1 .1 .0 ∙ curved (end c) .remove-shared .kept .1 .1 .1 .1 .1 .1 .1 .1 .0
 
 same-length-5 : tie.Need-same-length-5
-same-length-5 c = settled (cleared c) .settle .kept .1 .1 .1 .1 .1 .1 .1 .1 .0
+same-length-5 c = end c .settle .kept .1 .1 .1 .1 .1 .1 .1 .1 .0
 
 same-length-6 : tie.Need-same-length-6
 same-length-6 c =
-    let p = plain (narrowed (curved (settled (cleared c)))) in
-    cleared c .clear-four .kept .0 ∙ p .remove-plain-shared .kept .1 .1 .1 .1 .1 .1 .1 .1 .0
+    backless (cleared c) .clear .kept .0 ∙ plain (narrowed (curved (end c))) .remove-plain-shared .kept .1 .1 .1 .1 .1 .1 .1 .1 .0
 
 same-length-7 : tie.Need-same-length-7
-same-length-7 c = cleared c .clear-four .kept .1 .0
-
-same-length-8 : tie.Need-same-length-8
-same-length-8 c = cleared c .clear-four .kept .1 .1 .0
-
-same-length-9 : tie.Need-same-length-9
-same-length-9 c =
-    let s = settled (cleared c) in
+same-length-7 c =
+    let s = end c in
     let m = narrowed (curved s) in
     let l = listed (plain m) in
     let a = start l .args in
-    let list = m .narrow .last .1 .1 .0 in
-    let top = s .settle .last .1 .1 .1 .1 .1 .1 .1 .1 .1 .0 in
-    cleared c .clear-four .kept .1 .1 .1 .0
-    ∙ length-front list top ((a .width + 1) * (a .height + 1)) (s .settle .kept .1 .1 .1 .1 .1 .1 .1 .1 .1 .0)
+    cleared c .clear2 .kept .0
+    ∙ length-front (m .narrow .last .1 .1 .0) (s .settle .last .1 .1 .1 .1 .1 .1 .1 .1 .1 .0) ((a .width + 1) * (a .height + 1)) (s .settle .kept .1 .1 .1 .1 .1 .1 .1 .1 .1 .0)
     ∙ m .narrow .kept .1 .1 .0 ∙ l .list-darts .kept .1 .1 .1 .0
 
 returns : tie.Need-returns
 returns c =
-    let s = settled (cleared c) in
+    let s = end c in
     let e = curved s in
     let n = narrowed e in
     let p = plain n in
     let l = listed p in
     let a = start l in
-    let z = stated-long _ _ _ _ _ _ _ _ _ _ _ (a .pre .sizes) in
-    let list = n .narrow .last .1 .1 .0 in
-    let top = s .settle .last .1 .1 .1 .1 .1 .1 .1 .1 .1 .0 in (
+    let z = pair-long _ _ _ _ _ _ _ _ _ (a .pre .sizes) in (
       all-steps _ _ _ _ _ _ _ _ _ (a .pre .first) (a .pre .second) (z .lines .1) (a .pre .sided) _ _ _ _ _ _
           (p .remove-plain-shared .ensures) (e .remove-shared .ensures) (s .settle .ensures .0) (s .settle .ensures .1)
           (s .settle .ensures .2),
-      cleared c .clear-four .ensures
-          ∙ cleared-same _ _ _ _ _ _ _ _ (p .remove-plain-shared .kept .1 .1 .1 .1 .1 .1 .1 .1 .0) refl refl
-          (length-front list top ((a .args .width + 1) * (a .args .height + 1)) (s .settle .kept .1 .1 .1 .1 .1 .1 .1 .1 .1 .0)
+      pair-cleared _ _ _ _ _ _ (backless (cleared c) .clear .ensures) (cleared c .clear2 .ensures)
+          (p .remove-plain-shared .kept .1 .1 .1 .1 .1 .1 .1 .1 .0)
+          (length-front (n .narrow .last .1 .1 .0) (s .settle .last .1 .1 .1 .1 .1 .1 .1 .1 .1 .0) ((a .args .width + 1) * (a .args .height + 1))
+          (s .settle .kept .1 .1 .1 .1 .1 .1 .1 .1 .1 .0)
           ∙ n .narrow .kept .1 .1 .0 ∙ l .list-darts .kept .1 .1 .1 .0),
     )
 
@@ -233,7 +227,8 @@ apply-spec =
     slice-relend-prefix-settle
     slice-aggregate-settle
     settle-requires
-    clear-four-requires
+    clear-requires
+    clear-requires-2
     same-length
     same-length-2
     same-length-3
@@ -241,6 +236,4 @@ apply-spec =
     same-length-5
     same-length-6
     same-length-7
-    same-length-8
-    same-length-9
     returns)
