@@ -422,15 +422,51 @@ fn take_from_both(size: Size, five: &mut Five, taken_1: &[bool], taken_3: &[bool
     }
 }
 
-/// Joined by the removal rule, step by step.
+/// Joined by the removal rule, step by step. There is no step 2: step 1 leaves no hanging end, which is looked for here.
 pub fn joined_by_removal(size: Size, five: &Five, a: u16, b: u16) -> Five {
+    let before = five;
     let mut five = five.clone();
     remove_shared_lines(size, &mut five, a, b);
-    remove_hanging_ends(size, &mut five);
+    for point in 0..size.points() {
+        let [_, _, entry] = becoming(before, &five, point);
+        assert!(entry != 4, "joining {a} and {b} reads entry 4 at point {point}");
+        for next in [&five.next1, &five.next3] {
+            assert!(leaving(next, point).len() != 1, "joining {a} and {b} leaves a hanging end at point {point}");
+        }
+    }
     remove_points_of_two_edges(size, &mut five);
     move_loops_to_anchors(size, &mut five);
     rename(size, &mut five, a, b);
     five
+}
+
+/// What a point becomes: the lines present, those of them taken, and the entry of the point table.
+pub fn what_becomes(size: Size, five: &Five, a: u16, b: u16, point: usize) -> [u16; 3] {
+    let mut after = five.clone();
+    remove_shared_lines(size, &mut after, a, b);
+    becoming(five, &after, point)
+}
+
+fn becoming(before: &Five, after: &Five, point: usize) -> [u16; 3] {
+    let mask = |five: &Five| leaving(&five.next1, point).iter().map(|dart| 1 << (dart % 4)).sum::<u16>();
+    let present = mask(before);
+    let taken = present & !mask(after);
+    [present, taken, point_table(present, taken)]
+}
+
+/// An entry of the point table: 0 gone, 1 two lines in line, 2 a corner, 3 three or four lines, 4 cannot be.
+pub fn point_table(present: u16, taken: u16) -> u16 {
+    let remain = present & !taken;
+    if taken & !present != 0 || present.count_ones() == 1 {
+        return 4;
+    }
+    match remain.count_ones() {
+        0 => 0,
+        1 => 4,
+        2 if remain == 5 || remain == 10 => 1,
+        2 => 2,
+        _ => 3,
+    }
 }
 
 /// Step 1. The sides of a level 3 dart are its side and the side of its other.
@@ -442,28 +478,6 @@ fn remove_shared_lines(size: Size, five: &mut Five, a: u16, b: u16) {
     let taken_3: Vec<bool> =
         slots.map(|d| five.next3[d] != MARK && between((side[d], side[five.other3[d] as usize]), a, b)).collect();
     take_from_both(size, five, &taken_1, &taken_3);
-}
-
-/// Step 2. A hanging end is a point with exactly one line.
-fn remove_hanging_ends(size: Size, five: &mut Five) {
-    loop {
-        let mut taken_1 = vec![false; size.slots()];
-        let mut taken_3 = vec![false; size.slots()];
-        for point in 0..size.points() {
-            if let [dart] = leaving(&five.next1, point)[..] {
-                taken_1[dart] = true;
-                taken_1[size.reversal(dart)] = true;
-            }
-            if let [dart] = leaving(&five.next3, point)[..] {
-                taken_3[dart] = true;
-                taken_3[five.other3[dart] as usize] = true;
-            }
-        }
-        if !taken_1.contains(&true) && !taken_3.contains(&true) {
-            return;
-        }
-        take_from_both(size, five, &taken_1, &taken_3);
-    }
 }
 
 /// Step 3.

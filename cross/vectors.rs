@@ -7,6 +7,9 @@
 //!   join_refusals.txt  W H; labels; a b; number, 0 for accepted
 //!   not_drawings.txt   W H; five tables; 5, or 0 where they are a drawing
 //!   decks.txt          bytes in hexadecimal, - for none; 0 W H, or number card; labels of an accepted deck
+//! and those of the requests, in the folder `requests`:
+//!   t07_point_table.txt  present taken; entry
+//!   t07_joins.txt        W H; labels; a b; present taken entry of each point; the tables after the join, five or more
 
 use crate::naive::{self, Five, Level, Size, Works, MARK};
 use std::path::Path;
@@ -75,6 +78,19 @@ fn join(fields: &[Vec<u16>]) -> bool {
     drawing == five(&fields[3..8])
 }
 
+fn point_table(fields: &[Vec<u16>]) -> bool {
+    naive::point_table(fields[0][0], fields[0][1]) == fields[1][0]
+}
+
+/// The entry read at each point, and the tables after the join.
+fn join_by_points(fields: &[Vec<u16>]) -> bool {
+    let size = size(&fields[0]);
+    let drawing = naive::draw(size, &fields[1]);
+    let [a, b] = fields[2][..] else { return false };
+    let becoming = (0..size.points()).flat_map(|point| naive::what_becomes(size, &drawing, a, b, point));
+    becoming.eq(fields[3].iter().copied()) && naive::joined_by_removal(size, &drawing, a, b) == five(&fields[4..9])
+}
+
 fn join_refusal(fields: &[Vec<u16>]) -> bool {
     let size = size(&fields[0]);
     let mut drawing = naive::draw(size, &fields[1]);
@@ -119,6 +135,8 @@ pub fn run(folder: &Path) -> bool {
         file(folder, "join_refusals.txt", fields(join_refusal)),
         file(folder, "not_drawings.txt", fields(not_drawing)),
         file(folder, "decks.txt", deck),
+        file(folder, "requests/t07_point_table.txt", fields(point_table)),
+        file(folder, "requests/t07_joins.txt", fields(join_by_points)),
     ];
     results.iter().all(|&agreed| agreed)
 }

@@ -72,12 +72,12 @@ pub fn led(side: &[u16], other: &[u16], a: u16, b: u16, next: &[u16], dart: u16)
     chase(side, other, a, b, next, after)
 }
 
-// The next of a dart; the mark where the dart has the sides a and b.
-pub fn next_left(side: &[u16], other: &[u16], a: u16, b: u16, next: u16, dart: u16) -> u16
-    ensures { λ r. ⌜ r ≡ cond (shared (now (side .entry)) (at (now (other .entry))) a b dart) mark next ⌝ }
+// A link of a dart; the mark where the dart has the sides a and b.
+pub fn link_left(side: &[u16], other: &[u16], a: u16, b: u16, link: u16, dart: u16) -> u16
+    ensures { λ r. ⌜ r ≡ cond (shared (now (side .entry)) (at (now (other .entry))) a b dart) mark link ⌝ }
 {
     if is_shared(side, other, a, b, dart) {
         return dart::MARK;
     }
-    next
+    link
 }

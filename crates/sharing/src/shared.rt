@@ -50,7 +50,7 @@ fn unlink(side: &[u16], other: &[u16], a: u16, b: u16, first: u16, list: &[u16],
     let n = next.len() as u16;
     let mut dart = first;
     while dart < n {
-        next[dart as usize] = chasing::next_left(side, other, a, b, next[dart as usize], dart);
+        next[dart as usize] = chasing::link_left(side, other, a, b, next[dart as usize], dart);
         dart = list[dart as usize];
     }
 }
@@ -71,7 +71,7 @@ fn unpair(side: &[u16], a: u16, b: u16, first: u16, list: &[u16], other: &mut [u
     let n = other.len() as u16;
     let mut dart = first;
     while dart < n {
-        other[dart as usize] = chasing::next_left(side, other, a, b, other[dart as usize], dart);
+        other[dart as usize] = chasing::link_left(side, other, a, b, other[dart as usize], dart);
         dart = list[dart as usize];
     }
 }

@@ -148,6 +148,12 @@ module _ (w h : ℕ) (s : List ℕ) (room : slots w h ≤ mark) (a b : ℕ) (j :
         (λ d e. fewer d (level-was (sheet-plane w h n′) k d e)) (border-alone w h n p)
         (level-alone (sheet-plane w h n′) k p))
 
+    held-none-taken : becoming (mask (on (l .next)) p) (mask (on (l .next)) p) ≢ 4
+    held-none-taken =
+        rw held
+        (left-no-four (Chart.level (sheet w h n′) k .on) (Chart.level (sheet w h n′) k .on) p (λ d e. e)
+        (level-alone (sheet-plane w h n′) k p) (level-alone (sheet-plane w h n′) k p))
+
     held-lines : mask (on (l .next)) p ≢ 0 → mask (on (l .next)) p ≡ mask (on (rest1 w h t a b .next)) p
     unfolding sheet lines-map
     held-lines z = rw (held, left) (go (k p) refl)
@@ -165,6 +171,11 @@ module _ (w h : ℕ) (s : List ℕ) (room : slots w h ≤ mark) (a b : ℕ) (j :
   pub midway-no-four : {l : Links} → Midway w h (drawing w h s) a b l → (p : ℕ)
       → becoming (mask (on (drawing w h s .side1)) p) (mask (on (l .next)) p) ≢ 4
   midway-no-four {l} e = let (k, c, g) = midway-held e in held-no-four k l c g
+
+  -- also where what is left is read by itself, none of it taken
+  pub midway-none-taken : {l : Links} → Midway w h (drawing w h s) a b l → (p : ℕ)
+      → becoming (mask (on (l .next)) p) (mask (on (l .next)) p) ≢ 4
+  midway-none-taken {l} e = let (k, c, g) = midway-held e in held-none-taken k l c g
 
   pub midway-lines : {l : Links} → Midway w h (drawing w h s) a b l → (p : ℕ)
       → mask (on (l .next)) p ≢ 0 → mask (on (l .next)) p ≡ mask (on (rest1 w h (drawing w h s) a b .next)) p

@@ -25,20 +25,20 @@ cast-n c = omega (arith, c .before .before .before .before .pre .0)
 loop-holds : tie.Need-loop-holds Inv-loop μ-loop
 loop-holds c = λ g. treated-none _ _ _ (λ d b e. unlisted-keeps _ _ _ _ _ _ _ _ g d e) _ _ (g .list)
 
-cast-next-left : tie.Need-cast-next-left Inv-loop μ-loop
-cast-next-left c = omega arith
+cast-link-left : tie.Need-cast-link-left Inv-loop μ-loop
+cast-link-left c = omega arith
 
-mul-next-left : tie.Need-mul-next-left Inv-loop μ-loop
+mul-link-left : tie.Need-mul-link-left Inv-loop μ-loop
 unfolding mark
-mul-next-left c = omega (arith, c .before .before .before .before .before .before .pre .0, c .loop-test .taken)
+mul-link-left c = omega (arith, c .before .before .before .before .before .before .pre .0, c .loop-test .taken)
 
-slice-read-next-left : tie.Need-slice-read-next-left Inv-loop μ-loop
-slice-read-next-left c =
+slice-read-link-left : tie.Need-slice-read-link-left Inv-loop μ-loop
+slice-read-link-left c =
     let q = c .before .before .before .before .before .before .before .pre in
     omega (arith, c .before .before .loop .inv (q .3) .half .long, c .before .loop-test .taken)
 
-next-left-requires : tie.Need-next-left-requires Inv-loop μ-loop
-next-left-requires c κs = tt
+link-left-requires : tie.Need-link-left-requires Inv-loop μ-loop
+link-left-requires c κs = tt
 
 cast-next : tie.Need-cast-next Inv-loop μ-loop
 cast-next c = omega arith
@@ -75,7 +75,7 @@ loop-again c =
     λ g.
     let r = c .before .before .before .before .loop .inv g in
     treated-more _ _ _ (λ d b e. unlisted-keeps _ _ _ _ _ _ _ _ g d e) _ _ (g .list) _ _ _ r h
-    (unlink-here _ _ _ _ _ _ _ _ (treated-here _ _ _ (λ d b e. unlisted-keeps _ _ _ _ _ _ _ _ g d e) _ _ r h) (c .before .next-left .ensures))
+    (unlink-here _ _ _ _ _ _ _ _ (treated-here _ _ _ (λ d b e. unlisted-keeps _ _ _ _ _ _ _ _ g d e) _ _ r h) (c .before .link-left .ensures))
 
 same-length : tie.Need-same-length Inv-loop μ-loop
 same-length c = c .before .loop .inv (c .before .before .before .before .before .before .pre .3) .half .long
@@ -93,10 +93,10 @@ unlink-spec =
     μ-loop
     cast-n
     loop-holds
-    cast-next-left
-    mul-next-left
-    slice-read-next-left
-    next-left-requires
+    cast-link-left
+    mul-link-left
+    slice-read-link-left
+    link-left-requires
     cast-next
     mul-next
     slice-write-next

@@ -25,20 +25,20 @@ cast-n c = omega (arith, c .before .before .before .pre .0)
 loop-holds : tie.Need-loop-holds Inv-loop μ-loop
 loop-holds c = λ g. treated-none _ _ _ (λ d b e. unlisted-keeps _ _ _ _ _ _ _ _ g d e) _ _ (g .list)
 
-cast-next-left : tie.Need-cast-next-left Inv-loop μ-loop
-cast-next-left c = omega arith
+cast-link-left : tie.Need-cast-link-left Inv-loop μ-loop
+cast-link-left c = omega arith
 
-mul-next-left : tie.Need-mul-next-left Inv-loop μ-loop
+mul-link-left : tie.Need-mul-link-left Inv-loop μ-loop
 unfolding mark
-mul-next-left c = omega (arith, c .before .before .before .before .before .before .pre .0, c .before .loop-test .taken)
+mul-link-left c = omega (arith, c .before .before .before .before .before .before .pre .0, c .before .loop-test .taken)
 
-slice-reshared-read-next-left : tie.Need-slice-reshared-read-next-left Inv-loop μ-loop
-slice-reshared-read-next-left c =
+slice-reshared-read-link-left : tie.Need-slice-reshared-read-link-left Inv-loop μ-loop
+slice-reshared-read-link-left c =
     let i = c .before in
     omega (arith, i .before .loop .inv (i .before .before .before .before .before .pre .3) .half .long, i .loop-test .taken)
 
-next-left-requires : tie.Need-next-left-requires Inv-loop μ-loop
-next-left-requires c κs = tt
+link-left-requires : tie.Need-link-left-requires Inv-loop μ-loop
+link-left-requires c κs = tt
 
 cast-other : tie.Need-cast-other Inv-loop μ-loop
 cast-other c = omega arith
@@ -78,7 +78,7 @@ loop-again c =
     let r = i .before .loop .inv g in
     treated-more _ _ _ (λ d b e. unlisted-keeps _ _ _ _ _ _ _ _ g d e) _ _ (g .list) _ _ _ r h
     (unpair-here _ _ _ _ _ _ _ (omega (arith, r .half .long))
-    (treated-here _ _ _ (λ d b e. unlisted-keeps _ _ _ _ _ _ _ _ g d e) _ _ r h) (c .before .next-left .ensures))
+    (treated-here _ _ _ (λ d b e. unlisted-keeps _ _ _ _ _ _ _ _ g d e) _ _ r h) (c .before .link-left .ensures))
 
 same-length : tie.Need-same-length Inv-loop μ-loop
 same-length c = c .before .loop .inv (c .before .before .before .before .before .pre .3) .half .long
@@ -96,10 +96,10 @@ unpair-spec =
     μ-loop
     cast-n
     loop-holds
-    cast-next-left
-    mul-next-left
-    slice-reshared-read-next-left
-    next-left-requires
+    cast-link-left
+    mul-link-left
+    slice-reshared-read-link-left
+    link-left-requires
     cast-other
     mul-other
     slice-write-other

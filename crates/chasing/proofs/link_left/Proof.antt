@@ -1,8 +1,8 @@
 use mathlib.Core.Path.{sym, _∙_}
 use Rattle.plane.specs.Dart.{mark}
 use Rattle.chasing.proofs.Chasing.{gone-mark, gone-next}
-use Rattle.chasing.proofs.next_left.Statement.{statement}
-use Rattle.chasing.proofs.next_left.Tie as tie
+use Rattle.chasing.proofs.link_left.Statement.{statement}
+use Rattle.chasing.proofs.link_left.Tie as tie
 
 is-shared-requires : tie.Need-is-shared-requires
 is-shared-requires c κs = tt
@@ -14,5 +14,5 @@ returns c = gone-mark _ _ _ (sym (c .before .is-shared .ensures) ∙ c .if1 .tak
 returns-2 : tie.Need-returns-2
 returns-2 c = gone-next _ _ _ (sym (c .before .is-shared .ensures) ∙ c .if1 .left)
 
-pub next-left-spec : {M : Type 1} → statement M
-next-left-spec = tie.close (tie.spec is-shared-requires returns returns-2)
+pub link-left-spec : {M : Type 1} → statement M
+link-left-spec = tie.close (tie.spec is-shared-requires returns returns-2)
