@@ -20,11 +20,14 @@ use Rattle.plane.specs.Dart.{mark, points, slots, dart, point, direction, besid
 use Rattle.plane.specs.Point.{bits, half, has, corner, right, left, parts, present, degree, inline}
 use Rattle.rules.specs.Turn.{turn}
 use Rattle.paper.specs.Name.{label, west, north, names, named, cells}
-use Rattle.paper.specs.Level.{side, border, mask, next, plain, last, along, big, bent, tops, anchor, kept2, kept3, among, level, marked}
+use Rattle.paper.specs.Level.{side, border, mask, next, plain, last, along, big, bent, tops, anchor, kept2, kept3, among}
+use Rattle.paper.specs.Level.{level, marked}
 use Rattle.paper.specs.Enclosure.{first, parent, parents, above, depth, holes}
 use Rattle.paper.specs.Drawing.{Tables, drawn, drawing, fresh, recover, recovered, alike, same, judged}
-use Rattle.paper.specs.Joining.{Links, at, on, between, shared, chase, removed, rest1, rest3, low, high, spliced, smooth, smooths, smoothed, moved, close, closes, closed, joined}
-use Rattle.paper.specs.Refusal.{sized, cleared, outcome, levelRefusal, levelTables, levelled, five, stated, drawRefusal, mapped, used, adjoin, joinRefusal, merged, countRefusal, deepened, holed}
+use Rattle.paper.specs.Joining.{Links, at, on, between, shared, chase, removed, rest1, rest3, low, high, spliced}
+use Rattle.paper.specs.Joining.{smooth, smooths, smoothed, moved, close, closes, closed, joined}
+use Rattle.paper.specs.Refusal.{sized, cleared, outcome, levelRefusal, levelTables, levelled, five, stated, drawRefusal}
+use Rattle.paper.specs.Refusal.{mapped, used, adjoin, joinRefusal, merged, countRefusal, deepened, holed}
 use Rattle.laws.proofs.Test.{and-left, and-right}
 use Rattle.paper.proofs.Alike.{alike-iff}
 

@@ -29,7 +29,8 @@ use Rattle.paper.specs.Level.{side, border, mask, next, plain, level, big, tops
 use Rattle.paper.specs.Enclosure.{first, parent, parents}
 use Rattle.paper.specs.Drawing.{Tables, drawn}
 use Rattle.paper.specs.Joining.{Links, at, on, shared, removed, rest1, rest3, smooths, smoothed, closes, closed, joined}
-use Rattle.theory.proofs.Sheet.{lines-map, sheet, sheet-chart, sheet-few, sheet-colours, border-alone, border-back, border-below, border-lines}
+use Rattle.theory.proofs.Sheet.{lines-map, sheet, sheet-chart, sheet-few, sheet-colours}
+use Rattle.theory.proofs.Sheet.{border-alone, border-back, border-below, border-lines}
 use Rattle.theory.proofs.Fewer.{fewer-border, fewer-next, fewer-lines, fewer-side}
 use Rattle.theory.proofs.Marks.{same-at, marked-agree, on-marked, next-small}
 use Rattle.theory.proofs.Removed.{on-links, removed-lengths, removed-next, removed-other}
@@ -38,7 +39,8 @@ use Rattle.theory.proofs.Smoothed.{Smooth, smooth-all}
 use Rattle.theory.proofs.Closed.{Close, close-all}
 use Rattle.theory.proofs.Kept.{top, mask-some, dart-point, sheet-tops, sheet-anchored, sheet-loops}
 use Rattle.theory.proofs.Enclosure.{head-top, head-east}
-use Rattle.theory.proofs.Drawn.{anchors, sheet-plane, drawn-next1, drawn-side1, drawn-links, drawn-held, drawn-reads, level-reads, length-next1}
+use Rattle.theory.proofs.Drawn.{anchors, sheet-plane, drawn-next1, drawn-side1, drawn-links}
+use Rattle.theory.proofs.Drawn.{drawn-held, drawn-reads, level-reads, length-next1}
 
 -- a point that is big among fewer lines is big among more
 number-less : (a b : Bool) → (a ≡ true → b ≡ true) → number a ≤ number b

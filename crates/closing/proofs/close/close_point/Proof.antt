@@ -79,12 +79,14 @@ shared-slice-read-top c = search needs
 
 mask-requires-4 : tie.Need-mask-requires-4
 mask-requires-4 c κs =
-    let q = c .before .before .before .before .before .before .before .before .before .before .before .before .before .before .before .before .before .before .pre in
+    let t = c .before .before .before .before .before .before .before .before .before in
+    let q = t .before .before .before .before .before .before .before .before .before .pre in
     (top-fit _ _ _ (q .6) (q .1), top-fit _ _ _ (q .6) (q .3))
 
 seen-requires-2 : tie.Need-seen-requires-2
 seen-requires-2 c κs =
-    let q = c .before .before .before .before .before .before .before .before .before .before .before .before .before .before .before .before .before .before .before .pre in
+    let t = c .before .before .before .before .before .before .before .before .before .before in
+    let q = t .before .before .before .before .before .before .before .before .before .pre in
     top-fit _ _ _ (q .6) (q .1)
 
 move-loop-requires : tie.Need-move-loop-requires

@@ -17,11 +17,16 @@ told c = c .before .before .before .before .before .before .before .before
 abbrev asked : tie.After-enum-told → tie.After-asked
 asked c = c .before .before
 
+abbrev joined : tie.After-slice-known20 → tie.After-apply
+joined c = c .before .before .before .before .before .before .before .before .before .before .before .before .before .before
+
 check-requires : tie.Need-check-requires
 check-requires c κs = tt
 
 asked-requires : tie.Need-asked-requires
-asked-requires c κs = λ z. accepted-within _ _ _ _ _ (accepted-done _ _ _ _ _ _ z (c .before .before .before .before .before .before .before .before .before .before .check .ensures))
+asked-requires c κs =
+    let k = c .before .before .before .before .before .before .before .before .before .before in
+    λ z. accepted-within _ _ _ _ _ (accepted-done _ _ _ _ _ _ z (k .check .ensures))
 
 enum-told : tie.Need-enum-told
 enum-told c = search needs
@@ -68,40 +73,40 @@ apply-requires c κs =
     (asked-ready _ _ _ _ _ _ _ _ (checked k .check .ensures) _ (k .asked .ensures) (e .enum-told .given .1))
 
 same-length-10 : tie.Need-same-length-10
-same-length-10 c = c .before .before .before .before .before .before .before .before .before .before .before .before .before .before .apply .kept .1 .1 .1 .1 .0
+same-length-10 c = joined c .apply .kept .1 .1 .1 .1 .0
 
 same-length-11 : tie.Need-same-length-11
-same-length-11 c = c .before .before .before .before .before .before .before .before .before .before .before .before .before .before .apply .kept .1 .1 .1 .1 .1 .0
+same-length-11 c = joined c .apply .kept .1 .1 .1 .1 .1 .0
 
 same-length-12 : tie.Need-same-length-12
-same-length-12 c = c .before .before .before .before .before .before .before .before .before .before .before .before .before .before .apply .kept .1 .1 .1 .1 .1 .1 .0
+same-length-12 c = joined c .apply .kept .1 .1 .1 .1 .1 .1 .0
 
 same-length-13 : tie.Need-same-length-13
-same-length-13 c = c .before .before .before .before .before .before .before .before .before .before .before .before .before .before .apply .kept .1 .1 .1 .1 .1 .1 .1 .0
+same-length-13 c = joined c .apply .kept .1 .1 .1 .1 .1 .1 .1 .0
 
 same-length-14 : tie.Need-same-length-14
-same-length-14 c = c .before .before .before .before .before .before .before .before .before .before .before .before .before .before .apply .kept .1 .1 .1 .1 .1 .1 .1 .1 .0
+same-length-14 c = joined c .apply .kept .1 .1 .1 .1 .1 .1 .1 .1 .0
 
 same-length-15 : tie.Need-same-length-15
 same-length-15 c =
-    let p = c .before .before .before .before .before .before .before .before .before .before .before .before .before .before in
+    let p = joined c in
     p .apply .kept .1 .1 .1 .1 .1 .1 .1 .1 .1 .0 ∙ checked (asked (told p)) .check .kept .1 .1 .1 .1 .1 .1 .1 .0
 
 same-length-16 : tie.Need-same-length-16
 same-length-16 c =
-    let p = c .before .before .before .before .before .before .before .before .before .before .before .before .before .before in
+    let p = joined c in
     p .apply .kept .1 .1 .1 .1 .1 .1 .1 .1 .1 .1 .0 ∙ checked (asked (told p)) .check .kept .1 .1 .1 .1 .1 .1 .1 .1 .0
 
 same-length-17 : tie.Need-same-length-17
-same-length-17 c = checked (asked (told (c .before .before .before .before .before .before .before .before .before .before .before .before .before .before))) .check .kept .1 .1 .1 .1 .1 .1 .1 .1 .1 .0
+same-length-17 c = checked (asked (told (joined c))) .check .kept .1 .1 .1 .1 .1 .1 .1 .1 .1 .0
 
 same-length-18 : tie.Need-same-length-18
-same-length-18 c = checked (asked (told (c .before .before .before .before .before .before .before .before .before .before .before .before .before .before))) .check .kept .1 .1 .1 .1 .1 .1 .1 .1 .1 .1 .0
+same-length-18 c = checked (asked (told (joined c))) .check .kept .1 .1 .1 .1 .1 .1 .1 .1 .1 .1 .0
 
 returns-2 : tie.Need-returns-2
 unfolding adjoin
 returns-2 c =
-    let p = c .before .before .before .before .before .before .before .before .before .before .before .before .before .before in
+    let p = joined c in
     let e = told p in
     let k = asked e in
     asked-joined _ _ _ _ _ _ _ _ (checked k .check .ensures) _ (k .asked .ensures) (e .enum-told .given .1) _ _ _ _ _ _ refl _

@@ -1,7 +1,8 @@
 use mathlib.Core.Path.{_≡_, sym, _∙_}
-use Prim.Native.Nat.{_+_, _*_, _≤_}
+use mathlib.Core.List.{_++_}
+use Prim.Native.Nat.{ℕ, _+_, _*_, _≤_}
 use native.Mathlib.Omega.{arith}
-use lib.ListN.{length}
+use lib.ListN.{length, drop}
 use lib.Seq.{length-take-le, length-front}
 use Rattle.plane.specs.Dart.{points, slots}
 use Rattle.limits.proofs.Limit.{within-limits}
@@ -139,7 +140,9 @@ slice-relend-prefix-settle : tie.Need-slice-relend-prefix-settle
 slice-relend-prefix-settle c = work-room (narrowed (c .before .before .before .before .before .before .before .before .before))
 
 slice-aggregate-settle : tie.Need-slice-aggregate-settle
-slice-aggregate-settle c = sym (length-take-le _ _ (work-room (narrowed (c .before .before .before .before .before .before .before .before .before .before))))
+slice-aggregate-settle c =
+    let e = c .before .before .before .before .before .before .before .before .before .before in
+    sym (length-take-le _ _ (work-room (narrowed e)))
 
 settle-requires : tie.Need-settle-requires
 unfolding points
@@ -183,33 +186,36 @@ same-length-6 : tie.Need-same-length-6
 same-length-6 c =
     backless (cleared c) .clear .kept .0 ∙ plain (narrowed (curved (end c))) .remove-plain-shared .kept .1 .1 .1 .1 .1 .1 .1 .1 .0
 
-same-length-7 : tie.Need-same-length-7
-same-length-7 c =
-    let s = end c in
+-- the list too, whose front is lent for the tops
+abbrev points-of : tie.After-settle → ℕ
+points-of s =
+    let a = start (listed (plain (narrowed (curved s)))) .args in
+    (a .width + 1) * (a .height + 1)
+
+list-kept : (s : tie.After-settle)
+    → length (s .settle .last .1 .1 .1 .1 .1 .1 .1 .1 .1 .0 ++ drop (points-of s) (narrowed (curved s) .narrow .last .1 .1 .0))
+    ≡ length (start (listed (plain (narrowed (curved s)))) .args .list .now)
+list-kept s =
     let m = narrowed (curved s) in
-    let l = listed (plain m) in
-    let a = start l .args in
-    cleared c .clear2 .kept .0
-    ∙ length-front (m .narrow .last .1 .1 .0) (s .settle .last .1 .1 .1 .1 .1 .1 .1 .1 .1 .0) ((a .width + 1) * (a .height + 1)) (s .settle .kept .1 .1 .1 .1 .1 .1 .1 .1 .1 .0)
-    ∙ m .narrow .kept .1 .1 .0 ∙ l .list-darts .kept .1 .1 .1 .0
+    let top = s .settle .last .1 .1 .1 .1 .1 .1 .1 .1 .1 .0 in
+    length-front (m .narrow .last .1 .1 .0) top (points-of s) (s .settle .kept .1 .1 .1 .1 .1 .1 .1 .1 .1 .0)
+    ∙ m .narrow .kept .1 .1 .0 ∙ listed (plain m) .list-darts .kept .1 .1 .1 .0
+
+same-length-7 : tie.Need-same-length-7
+same-length-7 c = cleared c .clear2 .kept .0 ∙ list-kept (end c)
 
 returns : tie.Need-returns
 returns c =
     let s = end c in
     let e = curved s in
-    let n = narrowed e in
-    let p = plain n in
-    let l = listed p in
-    let a = start l in
+    let p = plain (narrowed e) in
+    let a = start (listed p) in
     let z = pair-long _ _ _ _ _ _ _ _ _ (a .pre .sizes) in (
       all-steps _ _ _ _ _ _ _ _ _ (a .pre .first) (a .pre .second) (z .lines .1) (a .pre .sided) _ _ _ _ _ _
           (p .remove-plain-shared .ensures) (e .remove-shared .ensures) (s .settle .ensures .0) (s .settle .ensures .1)
           (s .settle .ensures .2),
       pair-cleared _ _ _ _ _ _ (backless (cleared c) .clear .ensures) (cleared c .clear2 .ensures)
-          (p .remove-plain-shared .kept .1 .1 .1 .1 .1 .1 .1 .1 .0)
-          (length-front (n .narrow .last .1 .1 .0) (s .settle .last .1 .1 .1 .1 .1 .1 .1 .1 .1 .0) ((a .args .width + 1) * (a .args .height + 1))
-          (s .settle .kept .1 .1 .1 .1 .1 .1 .1 .1 .1 .0)
-          ∙ n .narrow .kept .1 .1 .0 ∙ l .list-darts .kept .1 .1 .1 .0),
+          (p .remove-plain-shared .kept .1 .1 .1 .1 .1 .1 .1 .1 .0) (list-kept s),
     )
 
 pub apply-spec : {M : Type 1} → statement M

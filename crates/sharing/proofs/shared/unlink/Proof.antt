@@ -60,7 +60,9 @@ unfolding mark
 mul-dart c = omega (arith, c .before .before .before .before .before .before .before .before .pre .0, c .before .before .loop-test .taken)
 
 shared-slice-read-dart : tie.Need-shared-slice-read-dart Inv-loop μ-loop
-shared-slice-read-dart c = omega (arith, c .before .before .before .before .before .before .before .before .before .pre .2, c .before .before .before .loop-test .taken)
+shared-slice-read-dart c =
+    let i = c .before .before .before in
+    omega (arith, i .before .before .before .before .before .before .pre .2, i .loop-test .taken)
 
 loop-less : tie.Need-loop-less Inv-loop μ-loop
 loop-less c =
@@ -75,7 +77,8 @@ loop-again c =
     λ g.
     let r = c .before .before .before .before .loop .inv g in
     treated-more _ _ _ (λ d b e. unlisted-keeps _ _ _ _ _ _ _ _ g d e) _ _ (g .list) _ _ _ r h
-    (unlink-here _ _ _ _ _ _ _ _ (treated-here _ _ _ (λ d b e. unlisted-keeps _ _ _ _ _ _ _ _ g d e) _ _ r h) (c .before .link-left .ensures))
+    (unlink-here _ _ _ _ _ _ _ _ (treated-here _ _ _ (λ d b e. unlisted-keeps _ _ _ _ _ _ _ _ g d e) _ _ r h)
+    (c .before .link-left .ensures))
 
 same-length : tie.Need-same-length Inv-loop μ-loop
 same-length c = c .before .loop .inv (c .before .before .before .before .before .before .pre .3) .half .long

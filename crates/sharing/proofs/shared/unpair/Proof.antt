@@ -60,7 +60,9 @@ unfolding mark
 mul-dart c = omega (arith, c .before .before .before .before .before .before .before .pre .0, c .before .before .loop-test .taken)
 
 shared-slice-read-dart : tie.Need-shared-slice-read-dart Inv-loop μ-loop
-shared-slice-read-dart c = omega (arith, c .before .before .before .before .before .before .before .before .pre .2, c .before .before .before .loop-test .taken)
+shared-slice-read-dart c =
+    let i = c .before .before .before in
+    omega (arith, i .before .before .before .before .before .pre .2, i .loop-test .taken)
 
 loop-less : tie.Need-loop-less Inv-loop μ-loop
 loop-less c =
