@@ -28,19 +28,19 @@ find-parents-requires c κs =
     (q .0, s .kept .1 .1 .1 .1 .1 .1 .0 ∙ q .5, tops-rising _ _ _ _ (s .ensures .1), q .4)
 
 same-length : tie.Need-same-length
-same-length c = search needs
+same-length c = lowered (c .before .before) .lower-sides .kept .1 .1 .1 .0
 
 same-length-2 : tie.Need-same-length-2
-same-length-2 c = search needs
+same-length-2 c = curved (lowered (c .before .before)) .settle-curves .kept .1 .1 .1 .1 .0
 
 same-length-3 : tie.Need-same-length-3
-same-length-3 c = search needs
+same-length-3 c = curved (lowered (c .before .before)) .settle-curves .kept .1 .1 .1 .1 .1 .0
 
 same-length-4 : tie.Need-same-length-4
-same-length-4 c = search needs
+same-length-4 c = c .before .before .find-parents .kept .1 .1 .1 .1 .0
 
 same-length-5 : tie.Need-same-length-5
-same-length-5 c = search needs
+same-length-5 c = curved (lowered (c .before .before)) .settle-curves .kept .1 .1 .1 .1 .1 .1 .0
 
 returns : tie.Need-returns
 returns c =

@@ -45,13 +45,19 @@ close-requires c κs =
     )
 
 same-length : tie.Need-same-length
-same-length c = search needs
+same-length c =
+    let e = c .before .before .before .before in
+    e .close .kept .1 .1 .1 .1 .1 .1 .0 ∙ smoothed e .smooth .kept .1 .1 .1 .1 .0
 
 same-length-2 : tie.Need-same-length-2
-same-length-2 c = search needs
+same-length-2 c =
+    let e = c .before .before .before .before in
+    e .close .kept .1 .1 .1 .1 .1 .1 .1 .0 ∙ smoothed e .smooth .kept .1 .1 .1 .1 .1 .0
 
 same-length-3 : tie.Need-same-length-3
-same-length-3 c = search needs
+same-length-3 c =
+    let e = c .before .before .before .before in
+    topped (tabled (smoothed e)) .top-points .kept .1 .1 .1 .0
 
 returns : tie.Need-returns
 returns c =

@@ -1,6 +1,5 @@
 use mathlib.Core.Path.{sym, _∙_}
 use native.Mathlib.Omega.{arith}
-use borrow.Author.Needs.{needs}
 use Rattle.sharing.proofs.Leading.{led-bounded, removed-nexts}
 use Rattle.sharing.proofs.shared.remove_nexts.Statement.{statement}
 use Rattle.sharing.proofs.shared.remove_nexts.Tie as tie
@@ -19,7 +18,7 @@ unlink-requires c κs =
     (omega (arith, q .0, e), q .3 ∙ sym e, q .4 ∙ sym e, rw e g)
 
 same-length : tie.Need-same-length
-same-length c = search needs
+same-length c = c .before .before .unlink .kept .1 .1 .1 .1 .1 .1 .0 ∙ c .before .before .before .before .before .before .lead .kept .1 .1 .1 .1 .1 .1 .0
 
 returns : tie.Need-returns
 returns c =

@@ -14,10 +14,10 @@ remove-nexts-requires c κs =
     (within-fits _ _ (q .0), q .1, q .2, q .3, q .4, q .5, q .7, rw (d .fill-reversals .ensures) (q .8))
 
 same-length : tie.Need-same-length
-same-length c = search needs
+same-length c = c .before .before .remove-nexts .kept .1 .1 .1 .1 .1 .1 .1 .1 .0
 
 same-length-2 : tie.Need-same-length-2
-same-length-2 c = search needs
+same-length-2 c = c .before .before .before .before .before .before .before .fill-reversals .kept .1 .1 .0
 
 returns : tie.Need-returns
 returns c =

@@ -14,10 +14,10 @@ unpair-requires c κs =
     (omega (arith, q .0, q .6), q .3 ∙ sym (q .6), q .4 ∙ sym (q .6), rw (q .6) (bare-bounded _ _ _ _ _ _ _ _ (q .9) (q .7)))
 
 same-length : tie.Need-same-length
-same-length c = search needs
+same-length c = c .before .before .before .before .before .before .remove-nexts .kept .1 .1 .1 .1 .1 .1 .1 .1 .0
 
 same-length-2 : tie.Need-same-length-2
-same-length-2 c = search needs
+same-length-2 c = c .before .before .unpair .kept .1 .1 .1 .1 .1 .0
 
 returns : tie.Need-returns
 returns c =
