@@ -3,7 +3,7 @@
 --   same a b        == the tests a and b agree
 --   both f          == every two masks pass the test f
 --   becoming m l    == what the point becomes: the lines of m that are not among l are taken
-use mathlib.Core.Path.{_≡_, refl, sym, ap, _∙_}
+use mathlib.Core.Path.{_≡_, refl, sym}
 use mathlib.Core.Bool.{Bool, true, false, cond, not, _&&_, _||_, false≢true, and-eq-true-iff}
 use mathlib.Core.List.{List}
 use mathlib.Core.Logic.{_≢_}

@@ -10,7 +10,7 @@ use native.Mathlib.Decide.{decLt}
 use native.Mathlib.Omega.{arith}
 use lib.Dec.{eqb}
 use lib.ListN.{length, getD}
-use borrow.Author.Tests.{eq-eqb, ne-eqb, eqb-true, not-false}
+use borrow.Author.Tests.{eqb-true, not-false}
 use Rattle.laws.specs.Table.{table}
 use Rattle.laws.proofs.Table.{length-table, getD-table, table-agree}
 use Rattle.laws.proofs.Test.{clash}
@@ -96,9 +96,6 @@ module _ (s n o : List ℕ) (a b : ℕ) (p : a < mark) (q : b < mark) (fit : len
       go : (c : Bool) → gone d ≡ c → on n (leaping l gone d) ≡ true
       go true e = rw (← (leaps-on l gone d e)) (m .stays (at o d) (m .across d h))
       go false e = rw (← (leaps-not l gone d e)) h
-
-  chase-on : (d : ℕ) → on n d ≡ true → on n (chase l gone d) ≡ true
-  chase-on d h = rw (chase-leaps l gone d) (leap-on _ (leap-on _ (leap-on _ (leap-on d h))))
 
   -- a dart with neither side keeps its next
   bounds-next : (d : ℕ) → on n d ≡ true → bounds s a b (at n d) ≡ bounds s a b d

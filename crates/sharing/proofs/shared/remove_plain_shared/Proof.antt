@@ -1,4 +1,3 @@
-use mathlib.Core.Path.{ap}
 use borrow.Author.Needs.{needs}
 use Rattle.theory.proofs.Marks.{within-fits}
 use Rattle.sharing.proofs.shared.remove_plain_shared.Statement.{statement}
