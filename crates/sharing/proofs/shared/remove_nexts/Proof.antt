@@ -18,7 +18,9 @@ unlink-requires c κs =
     (omega (arith, q .0, e), q .3 ∙ sym e, q .4 ∙ sym e, rw e g)
 
 same-length : tie.Need-same-length
-same-length c = c .before .before .unlink .kept .1 .1 .1 .1 .1 .1 .0 ∙ c .before .before .before .before .before .before .lead .kept .1 .1 .1 .1 .1 .1 .0
+same-length c =
+    let u = c .before .before in
+    u .unlink .kept .1 .1 .1 .1 .1 .1 .0 ∙ u .before .before .before .before .lead .kept .1 .1 .1 .1 .1 .1 .0
 
 returns : tie.Need-returns
 returns c =
