@@ -1,7 +1,7 @@
 use crate::show;
 use case_sheets::lengths::Lengths;
 use case_sheets::lent;
-use table::entry;
+use table_entries::entry;
 
 // The five tables of a drawing, each with room for the longest.
 pub struct Tables {

@@ -1,1 +1,3 @@
+pub mod Part
 pub mod Refusing
+pub mod Whole

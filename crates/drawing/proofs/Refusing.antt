@@ -11,12 +11,12 @@ use lib.ListN.{length}
 use borrow.Author.Tests.{eqb-true, eq-eqb, ne-eqb}
 use types.Run.{OneOf}
 use denote.Enum.Declared.{tagOf}
-use Rattle.limits.specs.Size.{within}
+use Rattle.sheet_size.specs.Size.{within}
 use Rattle.paper.specs.Drawing.{Tables}
 use Rattle.paper.specs.Refusal.{outcome, cleared, five, drawRefusal, mapped}
-use Rattle.lengths.specs.Given.{tables, works}
-use Rattle.lengths.specs.Lengths.{lengths}
-use Rattle.lengths.proofs.Tested.{Long, stated-lengths, lengths-long}
+use Rattle.table_lengths.specs.Given.{tables, works}
+use Rattle.table_lengths.specs.Lengths.{lengths}
+use Rattle.table_lengths.proofs.Tested.{Long, stated-lengths, lengths-long}
 use Rattle.drawing.specs.declared.draw.Drawn.{Drawn}
 use Rattle.drawing.specs.Answer.{drawing, refusal, drawn}
 use Rattle.drawing.proofs.draw.Drawn.{the-type}

@@ -9,7 +9,7 @@ use mathlib.Core.Bool.{Bool, cond, not}
 use mathlib.Core.List.{List, []}
 use Prim.Native.Nat.{ℕ, _*_}
 use lib.Dec.{eqb}
-use Rattle.limits.specs.Size.{within}
+use Rattle.sheet_size.specs.Size.{within}
 use Rattle.paper.specs.Refusal.{Outcome}
 use Rattle.drawing.specs.declared.draw.Drawn.{Drawn}
 

@@ -1,9 +1,9 @@
-use parts::draw;
-use region::names;
-use table::entry;
+use crate::parts;
+use region_names::names;
+use table_entries::entry;
 ghost use mathlib.Core.Path.{_≡_};
-ghost use Rattle.lengths.specs.Given.{tables, works};
-ghost use Rattle.lengths.specs.Lengths.{lengths};
+ghost use Rattle.table_lengths.specs.Given.{tables, works};
+ghost use Rattle.table_lengths.specs.Lengths.{lengths};
 ghost use Rattle.paper.specs.Refusal.{five, mapped};
 ghost use Rattle.drawing.specs.Answer.{drawing as answer, refusal, drawn};
 
@@ -49,13 +49,13 @@ fn refusal(
 ) -> Drawn
     ensures { λ r. ⌜ answer r ≡ refusal width height sheet (lengths width height next1 side1 next3 other3 parents a b c d) ⌝ }
 {
-    if !limits::within(width, height) {
+    if !sheet_size::within(width, height) {
         return Drawn::Size;
     }
     if sheet != (width * height) as usize {
         return Drawn::Sheet;
     }
-    if !lengths::stated(
+    if !table_lengths::stated(
         width,
         height,
         next1,
@@ -122,10 +122,10 @@ pub fn draw(
         return answer;
     };
     names::name_cells(width, height, sheet, a, b);
-    draw::draw_lines(width, height, b, a, next1, side1);
-    draw::keep_points(width, height, side1, a, b, c);
-    draw::draw_curves(width, height, next1, c, next3, other3);
-    draw::draw_parents(width, height, side1, b, parents);
+    parts::draw_lines(width, height, b, a, next1, side1);
+    parts::keep_points(width, height, side1, a, b, c);
+    parts::draw_curves(width, height, next1, c, next3, other3);
+    parts::draw_parents(width, height, side1, b, parents);
     entry::clear_four(a, b, c, d);
     Drawn::Done
 }

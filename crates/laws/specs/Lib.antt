@@ -1,3 +1,3 @@
-pub mod Table
 pub mod Least
 pub mod Run
+pub mod Table

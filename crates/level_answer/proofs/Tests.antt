@@ -7,10 +7,10 @@ use Prim.Native.Nat.{ℕ, _*_, _≤_, _<_}
 use native.Mathlib.Omega.{arith}
 use lib.Dec.{eqb, ltb}
 use borrow.Author.Tests.{eqb-true, eq-eqb, ne-eqb, ltb-false, lt-ltb, le-ltb}
-use Rattle.limits.specs.Size.{within}
-use Rattle.plane.specs.Dart.{slots}
-use Rattle.lengths.specs.Lengths.{seven}
-use Rattle.lengths.proofs.Tested.{all-seven}
+use Rattle.sheet_size.specs.Size.{within}
+use Rattle.point_darts.specs.Dart.{slots}
+use Rattle.table_lengths.specs.Lengths.{seven}
+use Rattle.table_lengths.proofs.Tested.{all-seven}
 use Rattle.level_answer.specs.declared.Drawn.{Drawn}
 use Rattle.level_answer.specs.declared.Drawn.the-variants.{Done}
 use Rattle.level_answer.specs.Answer.{answer, refusal}

@@ -5,7 +5,7 @@
 use mathlib.Core.Bool.{Bool, cond, not}
 use Prim.Native.Nat.{ℕ, _*_}
 use lib.Dec.{eqb, ltb}
-use Rattle.limits.specs.Size.{within}
+use Rattle.sheet_size.specs.Size.{within}
 use Rattle.level_answer.specs.declared.Drawn.{Drawn}
 use Rattle.level_answer.specs.declared.Drawn.the-variants.{Done, Size, Level, Sheet, Tables}
 

@@ -1,7 +1,7 @@
 // What the level drawing answers, and the tests of what it refuses.
 ghost use mathlib.Core.Path.{_≡_};
-ghost use Rattle.plane.specs.Dart.{slots};
-ghost use Rattle.lengths.specs.Lengths.{seven};
+ghost use Rattle.point_darts.specs.Dart.{slots};
+ghost use Rattle.table_lengths.specs.Lengths.{seven};
 ghost use Rattle.level_answer.specs.Answer.{answer, refusal};
 
 // What the level drawing answers: done, or what is refused.
@@ -51,7 +51,7 @@ pub fn refusal(
 ) -> Drawn
     ensures { λ r. ⌜ answer r ≡ refusal width height level sheet (seven (slots width height) next other side a b c d) ⌝ }
 {
-    if !limits::within(width, height) {
+    if !sheet_size::within(width, height) {
         return Drawn::Size;
     }
     if HIGHEST < level {
@@ -61,7 +61,7 @@ pub fn refusal(
         return Drawn::Sheet;
     }
     let slots = (4 * ((width + 1) * (height + 1))) as usize;
-    if !lengths::seven(slots, next, other, side, a, b, c, d) {
+    if !table_lengths::seven(slots, next, other, side, a, b, c, d) {
         return Drawn::Tables;
     }
     Drawn::Done

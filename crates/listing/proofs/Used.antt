@@ -9,9 +9,9 @@ use native.Mathlib.Omega.{arith}
 use lib.ListN.{length, getD}
 use borrow.Author.Tests.{eq-eqb, ne-eqb}
 use Rattle.laws.specs.Table.{count}
-use Rattle.plane.specs.Dart.{mark}
+use Rattle.point_darts.specs.Dart.{mark}
 use Rattle.paper.specs.Joining.{on}
-use Rattle.table.proofs.Entries.{at-in}
+use Rattle.table_entries.proofs.Entries.{at-in}
 
 module _ (t : List ℕ) where
   pub used-none : 0 ≡ count 0 (on t)

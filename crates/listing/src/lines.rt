@@ -1,13 +1,13 @@
 // The lines of a listing.
 use crate::text;
 use crate::text::Page;
-use plane::dart::MARK;
-use table::entry;
+use point_darts::dart::MARK;
+use table_entries::entry;
 ghost use mathlib.Core.Path.{_≡_};
 ghost use Prim.Native.Nat.{_≤_, min};
 ghost use lib.ListN.{length};
 ghost use Rattle.laws.specs.Table.{count};
-ghost use Rattle.plane.specs.Dart.{mark};
+ghost use Rattle.point_darts.specs.Dart.{mark};
 ghost use Rattle.paper.specs.Joining.{on};
 
 // How many entries of a table are not the mark.

@@ -3,19 +3,19 @@
 mod lines;
 mod text;
 
-use deck::answer::Read;
-use deck::card::LONG;
+use deck_card::answer::Read;
+use deck_card::card::LONG;
+use deck_reading::read::CELLS;
 use libc::STDIN_FILENO;
-use reading::read::CELLS;
 ghost use mathlib.Core.Path.{_≡_};
 ghost use mathlib.Core.Bool.{true};
 ghost use Prim.Native.Nat.{_*_, _≤_};
 ghost use lib.ListN.{length};
-ghost use Rattle.limits.specs.Size.{within};
-ghost use Rattle.plane.specs.Dart.{slots};
+ghost use Rattle.sheet_size.specs.Size.{within};
+ghost use Rattle.point_darts.specs.Dart.{slots};
 
 // The greatest width and the greatest height.
-const WIDEST: usize = limits::WIDEST as usize;
+const WIDEST: usize = sheet_size::WIDEST as usize;
 
 // The most slots of darts of a sheet, which are more than its names.
 const SLOTS: usize = 4 * (WIDEST + 1) * (WIDEST + 1);
@@ -99,7 +99,7 @@ fn count(width: u16, height: u16, slots: usize, names: usize, tables: Tables) ->
     let mut b = [0u16; SLOTS];
     let mut c = [0u16; SLOTS];
     let mut d = [0u16; SLOTS];
-    let answer = counts::count::counts(
+    let answer = count_call::count::counts(
         width,
         height,
         front(&next1, slots),
@@ -167,7 +167,7 @@ fn slots_of(width: u16, height: u16) -> usize
 fn list_sheet(width: u16, height: u16, cells: &[u16])
     requires { ⌜ length (now cells) ≡ 5184 ⌝ }
 {
-    if !limits::within(width, height) {
+    if !sheet_size::within(width, height) {
         return;
     }
     let n = cells_of(width, height);
@@ -180,7 +180,7 @@ fn list_sheet(width: u16, height: u16, cells: &[u16])
 // Lists the sheet of a deck, or says why the deck is refused.
 fn list_deck(deck: &[u8]) {
     let mut cells = [0u16; CELLS];
-    let answer = reading::read::read(deck, &mut cells);
+    let answer = deck_reading::read::read(deck, &mut cells);
     match answer {
         Read::Sheet { width, height } => list_sheet(width, height, &cells),
         Read::Refused { number, card } => lines::refused(number, card),

@@ -15,10 +15,10 @@ use lib.Dec.{eqb, ltb}
 use Rattle.laws.specs.Table.{listed, table, number, count, some}
 use Rattle.laws.specs.Least.{lower, tie, ties, least}
 use Rattle.laws.specs.Run.{run}
-use Rattle.limits.specs.Size.{widest, within}
-use Rattle.plane.specs.Dart.{mark, points, slots, dart, point, direction, beside, far, turned, reversal, stays, line}
-use Rattle.plane.specs.Point.{bits, half, has, corner, right, left, parts, present, degree, inline}
-use Rattle.rules.specs.Turn.{turn}
+use Rattle.sheet_size.specs.Size.{widest, within}
+use Rattle.point_darts.specs.Dart.{mark, points, slots, dart, point, direction, beside, far, turned, reversal, stays, line}
+use Rattle.point_darts.specs.Point.{bits, half, has, corner, right, left, parts, present, degree, inline}
+use Rattle.point_rules.specs.Turn.{turn}
 use Rattle.paper.specs.Name.{label, west, north, names, named, cells}
 use Rattle.paper.specs.Level.{side, border, mask, next, plain, last, along, big, bent, tops, anchor, kept2, kept3, among}
 use Rattle.paper.specs.Level.{level, marked}

@@ -12,7 +12,7 @@ use Prim.Native.Nat.{ℕ, zero, suc, _+_, _*_, _/_}
 use lib.Dec.{eqb}
 use lib.ListN.{getD, length}
 use Rattle.laws.specs.Least.{lower}
-use Rattle.plane.specs.Dart.{mark, dart}
+use Rattle.point_darts.specs.Dart.{mark, dart}
 use Rattle.paper.specs.Name.{names}
 use Rattle.paper.specs.Level.{side, border, level, marked}
 use Rattle.paper.specs.Enclosure.{parents}

@@ -10,7 +10,7 @@ use Prim.Native.Nat.{ℕ, zero, suc, _+_, _*_, _/_}
 use lib.Dec.{eqb}
 use lib.ListN.{getD, length}
 use Rattle.laws.specs.Table.{table, count}
-use Rattle.plane.specs.Dart.{mark, dart, point, reversal}
+use Rattle.point_darts.specs.Dart.{mark, dart, point, reversal}
 use Rattle.paper.specs.Level.{tops}
 
 unfoldable pub first : ℕ → ℕ → ℕ

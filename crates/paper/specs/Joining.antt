@@ -15,8 +15,8 @@ use lib.ListN.{getD, set}
 use Rattle.laws.specs.Table.{table}
 use Rattle.laws.specs.Least.{lower}
 use Rattle.laws.specs.Run.{run}
-use Rattle.plane.specs.Dart.{mark, points, slots, dart, reversal}
-use Rattle.plane.specs.Point.{has, degree}
+use Rattle.point_darts.specs.Dart.{mark, points, slots, dart, reversal}
+use Rattle.point_darts.specs.Point.{has, degree}
 use Rattle.paper.specs.Level.{mask, marked, tops}
 use Rattle.paper.specs.Enclosure.{parents}
 use Rattle.paper.specs.Drawing.{Tables}

@@ -15,9 +15,9 @@ use lib.ListN.{getD}
 use Rattle.laws.specs.Table.{table, some}
 use Rattle.laws.specs.Least.{least}
 use Rattle.laws.specs.Run.{run}
-use Rattle.plane.specs.Dart.{mark, points, slots, dart, point, direction, far, reversal, line}
-use Rattle.plane.specs.Point.{bits, right, parts, degree, inline}
-use Rattle.rules.specs.Turn.{turn}
+use Rattle.point_darts.specs.Dart.{mark, points, slots, dart, point, direction, far, reversal, line}
+use Rattle.point_darts.specs.Point.{bits, right, parts, degree, inline}
+use Rattle.point_rules.specs.Turn.{turn}
 use Rattle.paper.specs.Name.{cells}
 
 unfoldable pub side : ℕ → ℕ → List ℕ → ℕ → ℕ

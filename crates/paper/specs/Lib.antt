@@ -1,7 +1,7 @@
-pub mod Name
-pub mod Level
-pub mod Enclosure
 pub mod Drawing
+pub mod Enclosure
 pub mod Joining
+pub mod Level
+pub mod Name
 pub mod Refusal
 pub mod Sitting

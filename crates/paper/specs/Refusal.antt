@@ -9,8 +9,8 @@ use Prim.Native.Nat.{ℕ, zero, suc, _+_, _*_}
 use lib.Dec.{eqb, ltb}
 use lib.ListN.{length, replicate}
 use Rattle.laws.specs.Table.{some}
-use Rattle.limits.specs.Size.{within}
-use Rattle.plane.specs.Dart.{slots, reversal}
+use Rattle.sheet_size.specs.Size.{within}
+use Rattle.point_darts.specs.Dart.{slots, reversal}
 use Rattle.paper.specs.Name.{names}
 use Rattle.paper.specs.Level.{side, level, marked}
 use Rattle.paper.specs.Enclosure.{depth, holes}

@@ -9,7 +9,7 @@ use mathlib.Core.Path.{_≡_}
 use mathlib.Core.Bool.{true}
 use mathlib.Core.Logic.{_≢_}
 use Prim.Native.Nat.{ℕ}
-use Rattle.plane.specs.Dart.{point}
+use Rattle.point_darts.specs.Dart.{point}
 use Rattle.paper.specs.Level.{tops}
 use Rattle.paper.specs.Drawing.{Tables}
 use Rattle.paper.specs.Joining.{Links, at, on, shared, rest1, rest3, smooths, smoothed, closes, joined}

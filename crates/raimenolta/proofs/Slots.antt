@@ -7,14 +7,14 @@ use mathlib.Core.List.{List, [], _∷_, _++_}
 use Prim.Native.Nat.{ℕ}
 use borrow.Author.Tests.{ne-eqb}
 use Rattle.paper.specs.Refusal.{Outcome}
-use Rattle.counting.specs.declared.answer.Count.{Count}
+use Rattle.count_answer.specs.declared.answer.Count.{Count}
 use Rattle.drawing.specs.Answer.{left}
-use Rattle.counting.specs.Answer.{count, values, counted}
-use Rattle.deck.specs.declared.answer.Read.{Read}
-use Rattle.deck.specs.Outcome.{readOutcome}
-use Rattle.reading.specs.Reading.{reading}
-use Rattle.reading.proofs.One.{refused-some}
-use Rattle.values.specs.Put.{countHeld, refusal, sizeHeld, cardHeld}
+use Rattle.count_answer.specs.Answer.{count, values, counted}
+use Rattle.deck_card.specs.declared.answer.Read.{Read}
+use Rattle.deck_card.specs.Outcome.{readOutcome}
+use Rattle.deck_reading.specs.Reading.{reading}
+use Rattle.deck_reading.proofs.One.{refused-some}
+use Rattle.raimenolta_values.specs.Put.{countHeld, refusal, sizeHeld, cardHeld}
 use Rattle.raimenolta.specs.Slot.{done, stopped, slotted, slottedTwice, carded}
 
 -- A count's answer, with its value in a slot.

@@ -10,7 +10,7 @@ use mathlib.Core.List.{List, [], _∷_, _++_}
 use Prim.Native.Nat.{ℕ}
 use lib.Dec.{eqb}
 use Rattle.paper.specs.Refusal.{Outcome}
-use Rattle.deck.specs.Outcome as cards
+use Rattle.deck_card.specs.Outcome as cards
 use Rattle.drawing.specs.Answer.{left}
 
 unfoldable pub done : Outcome → List ℕ → List ℕ

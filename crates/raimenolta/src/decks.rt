@@ -1,9 +1,9 @@
 // Land decks: reading one, writing one, and the number for a row's card.
 ghost use mathlib.Core.Path.{_≡_};
 ghost use mathlib.Core.List.{[], _∷_};
-ghost use Rattle.deck.specs.Card.{partRefusal};
-ghost use Rattle.reading.specs.Reading.{reading};
-ghost use Rattle.writing.specs.Writing.{writing};
+ghost use Rattle.deck_card.specs.Card.{partRefusal};
+ghost use Rattle.deck_reading.specs.Reading.{reading};
+ghost use Rattle.deck_writing.specs.Writing.{writing};
 ghost use Rattle.drawing.specs.Answer.{left};
 ghost use Rattle.raimenolta.specs.Slot.{carded, slottedTwice};
 
@@ -22,8 +22,8 @@ pub extern "C" fn raimenolta_read(
         slottedTwice (carded (reading (now (deck .entry)) (now (cells .entry)))) (now (size .entry)) (now (card .entry) ∷ [])
         ⌝ }
 {
-    let answer = reading::read::read(deck, cells);
-    values::read::put(answer, size, card)
+    let answer = deck_reading::read::read(deck, cells);
+    raimenolta_values::read::put(answer, size, card)
 }
 
 // Writes the deck of a sheet. Refusals 1, 3, 4 and 27.
@@ -33,7 +33,7 @@ pub extern "C" fn raimenolta_write(width: u16, height: u16, sheet: &[u16], deck:
         left r [] (now (deck .exit) ∷ []) [] ≡ carded (writing width height (now (sheet .entry)) (now (deck .entry)))
         ⌝ }
 {
-    let answer = writing::write::write(width, height, sheet, deck);
+    let answer = deck_writing::write::write(width, height, sheet, deck);
     answer.number()
 }
 
@@ -42,5 +42,5 @@ pub extern "C" fn raimenolta_write(width: u16, height: u16, sheet: &[u16], deck:
 pub extern "C" fn raimenolta_part_refusal(width: u16, card: &[u8]) -> u16
     ensures { λ r. ⌜ r ≡ partRefusal width (now (card .entry)) ⌝ }
 {
-    deck::card::part_refusal(width, card)
+    deck_card::card::part_refusal(width, card)
 }

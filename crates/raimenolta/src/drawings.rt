@@ -1,12 +1,13 @@
 // What is asked of a drawing: whether it is one, to join two of its regions, the depth and the holes of its regions.
+use check_call::check;
 ghost use mathlib.Core.Path.{_≡_};
 ghost use mathlib.Core.List.{[], _∷_, _++_};
 ghost use Rattle.paper.specs.Refusal.{five, merged, deepened, holed};
-ghost use Rattle.lengths.specs.Given.{tables, works};
-ghost use Rattle.verdict.specs.Check.{checked};
-ghost use Rattle.counts.specs.Tally.{tallied};
+ghost use Rattle.table_lengths.specs.Given.{tables, works};
+ghost use Rattle.check_answer.specs.Check.{checked};
+ghost use Rattle.count_call.specs.Tally.{tallied};
 ghost use Rattle.drawing.specs.Answer.{left};
-ghost use Rattle.join.specs.Faithful.{Faithful};
+ghost use Rattle.join_call.specs.Faithful.{Faithful};
 ghost use Rattle.raimenolta.specs.Slot.{slotted};
 
 // Checks whether the five tables are the drawing of some sheet of this size. Refusals 1, 4 and 5.
@@ -34,7 +35,7 @@ pub extern "C" fn raimenolta_check(
         (works (now («work_a» .entry)) (now («work_b» .entry)) (now («work_c» .entry)) (now («work_d» .entry)))
         ⌝ }
 {
-    let verdict = checking::check(
+    let verdict = check::check(
         width,
         height,
         next1,
@@ -47,7 +48,7 @@ pub extern "C" fn raimenolta_check(
         work_c,
         work_d,
     );
-    values::check::number(verdict)
+    raimenolta_values::check::number(verdict)
 }
 
 // Joins the regions a and b of a drawing, in its five tables, which come to equal the drawing afresh. Refusals 1, 4, 5, 6,
@@ -86,7 +87,7 @@ pub extern "C" fn raimenolta_join(
         b)
         ⌝ }
 {
-    let joined = join::regions::join(
+    let joined = join_call::regions::join(
         width,
         height,
         next1,
@@ -136,7 +137,7 @@ pub extern "C" fn raimenolta_depth(
         (now (depth .entry) ∷ [])
         ⌝ }
 {
-    let answer = counts::count::depth(
+    let answer = count_call::count::depth(
         width,
         height,
         next1,
@@ -150,7 +151,7 @@ pub extern "C" fn raimenolta_depth(
         work_c,
         work_d,
     );
-    values::count::put(answer, depth)
+    raimenolta_values::count::put(answer, depth)
 }
 
 // Puts the hole count of a region, or of the outside for the name 0, into a lent slot. Refusals 1, 4, 5 and 8, which leave
@@ -185,7 +186,7 @@ pub extern "C" fn raimenolta_holes(
         (now (holes .entry) ∷ [])
         ⌝ }
 {
-    let answer = counts::count::holes(
+    let answer = count_call::count::holes(
         width,
         height,
         next1,
@@ -199,7 +200,7 @@ pub extern "C" fn raimenolta_holes(
         work_c,
         work_d,
     );
-    values::count::put(answer, holes)
+    raimenolta_values::count::put(answer, holes)
 }
 
 // Depth and hole count of every name at once, the mark for a name that is not in use. Refusals 1, 4 and 5.
@@ -232,7 +233,7 @@ pub extern "C" fn raimenolta_counts(
         (works (now («work_a» .entry)) (now («work_b» .entry)) (now («work_c» .entry)) (now («work_d» .entry)))
         ⌝ }
 {
-    let answer = counts::count::counts(
+    let answer = count_call::count::counts(
         width,
         height,
         next1,
@@ -247,5 +248,5 @@ pub extern "C" fn raimenolta_counts(
         work_c,
         work_d,
     );
-    values::check::number(answer)
+    raimenolta_values::check::number(answer)
 }

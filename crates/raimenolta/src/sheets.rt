@@ -2,7 +2,7 @@
 ghost use mathlib.Core.Path.{_≡_};
 ghost use mathlib.Core.List.{[], _∷_};
 ghost use Rattle.paper.specs.Refusal.{levelled, five, mapped};
-ghost use Rattle.lengths.specs.Given.{tables, works};
+ghost use Rattle.table_lengths.specs.Given.{tables, works};
 ghost use Rattle.drawing.specs.Answer.{left};
 
 // Draws a level of a sheet: next, other and side. Refusals 1, 2, 3 and 4.
@@ -28,7 +28,7 @@ pub extern "C" fn raimenolta_level(
         (works (now («work_a» .entry)) (now («work_b» .entry)) (now («work_c» .entry)) (now («work_d» .entry)))
         ⌝ }
 {
-    let answer = level::draw::draw(
+    let answer = level_call::draw::draw(
         width,
         height,
         level,

@@ -1,9 +1,9 @@
 use mathlib.Core.Path.{sym, _∙_}
 use native.Mathlib.Omega.{arith}
 use borrow.Author.Tests.{not-true, not-false}
-use Rattle.plane.specs.Dart.{points, slots}
-use Rattle.plane.proofs.Fit.{points-fit, cells-fit}
-use Rattle.limits.proofs.Limit.{within-limits}
+use Rattle.point_darts.specs.Dart.{points, slots}
+use Rattle.point_darts.proofs.Fit.{points-fit, cells-fit}
+use Rattle.sheet_size.proofs.Limit.{within-limits}
 use Rattle.level_answer.specs.Answer.{answer}
 use Rattle.level_answer.proofs.Tests.{size-refused, level-refused, sheet-refused, tables-refused, none-refused}
 use borrow.Author.Needs.{needs}

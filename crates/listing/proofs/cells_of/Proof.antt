@@ -1,6 +1,6 @@
 use mathlib.Core.Path.{refl}
 use native.Mathlib.Omega.{arith}
-use Rattle.plane.proofs.Fit.{cells-fit}
+use Rattle.point_darts.proofs.Fit.{cells-fit}
 use Rattle.listing.proofs.cells_of.Statement.{statement}
 use Rattle.listing.proofs.cells_of.Tie as tie
 

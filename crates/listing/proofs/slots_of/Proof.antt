@@ -1,8 +1,8 @@
 use mathlib.Core.Path.{refl}
 use native.Mathlib.Omega.{arith}
-use Rattle.plane.specs.Dart.{points, slots}
-use Rattle.limits.proofs.Limit.{within-limits}
-use Rattle.plane.proofs.Fit.{points-fit}
+use Rattle.point_darts.specs.Dart.{points, slots}
+use Rattle.sheet_size.proofs.Limit.{within-limits}
+use Rattle.point_darts.proofs.Fit.{points-fit}
 use Rattle.listing.proofs.slots_of.Statement.{statement}
 use Rattle.listing.proofs.slots_of.Tie as tie
 

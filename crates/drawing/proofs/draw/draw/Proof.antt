@@ -1,6 +1,6 @@
 use mathlib.Core.Path.{refl, _∙_}
-use Rattle.table.proofs.Cleared.{cleared-same}
-use Rattle.parts.proofs.Whole.{drawing-whole, tops-rising}
+use Rattle.table_entries.proofs.Cleared.{cleared-same}
+use Rattle.drawing.proofs.Whole.{drawing-whole, tops-rising}
 use Rattle.drawing.proofs.Refusing.{refused, fits, sheet-long, long, done}
 use Rattle.drawing.proofs.draw.draw.Statement.{statement}
 use Rattle.drawing.proofs.draw.draw.Tie as tie

@@ -1,7 +1,7 @@
 use mathlib.Core.Path.{sym, _∙_}
 use native.Mathlib.Omega.{arith}
 use borrow.Author.Tests.{not-true, not-false}
-use Rattle.plane.proofs.Fit.{cells-fit}
+use Rattle.point_darts.proofs.Fit.{cells-fit}
 use Rattle.drawing.proofs.Refusing.{size-refused, sheet-refused, tables-refused, none-refused}
 use borrow.Author.Needs.{needs}
 use Rattle.drawing.proofs.draw.refusal.Statement.{statement}

@@ -1,5 +1,5 @@
 use borrow.Author.Needs.{needs}
-use Rattle.plane.specs.Dart.{mark}
+use Rattle.point_darts.specs.Dart.{mark}
 use Rattle.listing.proofs.lines.length_of.Statement.{statement}
 use Rattle.listing.proofs.lines.length_of.Tie as tie
 

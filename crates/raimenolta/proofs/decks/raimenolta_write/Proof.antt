@@ -1,4 +1,4 @@
-use Rattle.deck.specs.Outcome.{writeOutcome}
+use Rattle.deck_card.specs.Outcome.{writeOutcome}
 use Rattle.raimenolta.specs.Slot.{carded}
 use borrow.Author.Needs.{needs}
 use Rattle.raimenolta.proofs.decks.raimenolta_write.Statement.{statement}

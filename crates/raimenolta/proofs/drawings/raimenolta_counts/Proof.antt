@@ -1,4 +1,4 @@
-use Rattle.verdict.specs.Answer.{answered}
+use Rattle.check_answer.specs.Answer.{answered}
 use borrow.Author.Needs.{needs}
 use Rattle.raimenolta.proofs.drawings.raimenolta_counts.Statement.{statement}
 use Rattle.raimenolta.proofs.drawings.raimenolta_counts.Tie as tie

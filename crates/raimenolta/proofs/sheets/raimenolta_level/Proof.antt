@@ -1,4 +1,4 @@
-use Rattle.level.specs.Draw.{told}
+use Rattle.level_call.specs.Draw.{told}
 use borrow.Author.Needs.{needs}
 use Rattle.raimenolta.proofs.sheets.raimenolta_level.Statement.{statement}
 use Rattle.raimenolta.proofs.sheets.raimenolta_level.Tie as tie

@@ -1,0 +1,88 @@
+use Rattle.table_entries.proofs.Front.{blank-in, blank-front}
+use Rattle.cases_drawing.proofs.asked.counts_of.Statement.{statement}
+use Rattle.cases_drawing.proofs.asked.counts_of.Tie as tie
+
+front-requires : tie.Need-front-requires
+front-requires c κs = tt
+
+front-requires-2 : tie.Need-front-requires-2
+front-requires-2 c κs = tt
+
+front-requires-3 : tie.Need-front-requires-3
+front-requires-3 c κs = tt
+
+front-requires-4 : tie.Need-front-requires-4
+front-requires-4 c κs = tt
+
+front-requires-5 : tie.Need-front-requires-5
+front-requires-5 c κs = tt
+
+array-borrow-prefix-depths : tie.Need-array-borrow-prefix-depths
+array-borrow-prefix-depths c = blank-in 7 _ 21320 (c .before .before .before .before .before .before .before .before .before .before .before .before .before .before .before .pre .1)
+
+slice-aggregate-counts : tie.Need-slice-aggregate-counts
+slice-aggregate-counts c = blank-front 7 _ 21320 (c .before .before .before .before .before .before .before .before .before .before .before .before .before .before .before .before .pre .1)
+
+array-borrow-prefix-holes : tie.Need-array-borrow-prefix-holes
+array-borrow-prefix-holes c = blank-in 7 _ 21320 (c .before .before .before .before .before .before .before .before .before .before .before .before .before .before .before .before .pre .2)
+
+slice-aggregate-counts-2 : tie.Need-slice-aggregate-counts-2
+slice-aggregate-counts-2 c = blank-front 7 _ 21320 (c .before .before .before .before .before .before .before .before .before .before .before .before .before .before .before .before .before .pre .2)
+
+array-borrow-prefix-a : tie.Need-array-borrow-prefix-a
+array-borrow-prefix-a c = blank-in 7 _ 21320 (c .before .before .before .before .before .before .before .before .before .before .before .before .before .before .before .before .before .pre .0 .a)
+
+slice-aggregate-counts-3 : tie.Need-slice-aggregate-counts-3
+slice-aggregate-counts-3 c = blank-front 7 _ 21320 (c .before .before .before .before .before .before .before .before .before .before .before .before .before .before .before .before .before .before .pre .0 .a)
+
+array-borrow-prefix-b : tie.Need-array-borrow-prefix-b
+array-borrow-prefix-b c = blank-in 7 _ 21320 (c .before .before .before .before .before .before .before .before .before .before .before .before .before .before .before .before .before .before .pre .0 .b)
+
+slice-aggregate-counts-4 : tie.Need-slice-aggregate-counts-4
+slice-aggregate-counts-4 c = blank-front 7 _ 21320 (c .before .before .before .before .before .before .before .before .before .before .before .before .before .before .before .before .before .before .before .pre .0 .b)
+
+array-borrow-prefix-c : tie.Need-array-borrow-prefix-c
+array-borrow-prefix-c c = blank-in 7 _ 21320 (c .before .before .before .before .before .before .before .before .before .before .before .before .before .before .before .before .before .before .before .pre .0 .c)
+
+slice-aggregate-counts-5 : tie.Need-slice-aggregate-counts-5
+slice-aggregate-counts-5 c = blank-front 7 _ 21320 (c .before .before .before .before .before .before .before .before .before .before .before .before .before .before .before .before .before .before .before .before .pre .0 .c)
+
+array-borrow-prefix-d : tie.Need-array-borrow-prefix-d
+array-borrow-prefix-d c = blank-in 7 _ 21320 (c .before .before .before .before .before .before .before .before .before .before .before .before .before .before .before .before .before .before .before .before .pre .0 .d)
+
+slice-aggregate-counts-6 : tie.Need-slice-aggregate-counts-6
+slice-aggregate-counts-6 c = blank-front 7 _ 21320 (c .before .before .before .before .before .before .before .before .before .before .before .before .before .before .before .before .before .before .before .before .before .pre .0 .d)
+
+counts-requires : tie.Need-counts-requires
+counts-requires c κs = tt
+
+number-requires : tie.Need-number-requires
+number-requires c κs = tt
+
+returns : tie.Need-returns
+returns c = tt
+
+pub counts-of-spec : {M : Type 1} → statement M
+counts-of-spec =
+    tie.close
+    (tie.spec
+    front-requires
+    front-requires-2
+    front-requires-3
+    front-requires-4
+    front-requires-5
+    array-borrow-prefix-depths
+    slice-aggregate-counts
+    array-borrow-prefix-holes
+    slice-aggregate-counts-2
+    array-borrow-prefix-a
+    slice-aggregate-counts-3
+    array-borrow-prefix-b
+    slice-aggregate-counts-4
+    array-borrow-prefix-c
+    slice-aggregate-counts-5
+    array-borrow-prefix-d
+    slice-aggregate-counts-6
+    counts-requires
+    number-requires
+    returns)

@@ -1,0 +1,76 @@
+use Rattle.table_entries.proofs.Front.{blank-in, blank-front}
+use Rattle.cases_drawing.proofs.asked.holes_of.Statement.{statement}
+use Rattle.cases_drawing.proofs.asked.holes_of.Tie as tie
+
+front-requires : tie.Need-front-requires
+front-requires c κs = tt
+
+front-requires-2 : tie.Need-front-requires-2
+front-requires-2 c κs = tt
+
+front-requires-3 : tie.Need-front-requires-3
+front-requires-3 c κs = tt
+
+front-requires-4 : tie.Need-front-requires-4
+front-requires-4 c κs = tt
+
+front-requires-5 : tie.Need-front-requires-5
+front-requires-5 c κs = tt
+
+array-borrow-prefix-a : tie.Need-array-borrow-prefix-a
+array-borrow-prefix-a c = blank-in 7 _ 21320 (c .before .before .before .before .before .before .before .before .before .before .before .before .before .before .before .pre .a)
+
+slice-aggregate-holes : tie.Need-slice-aggregate-holes
+slice-aggregate-holes c = blank-front 7 _ 21320 (c .before .before .before .before .before .before .before .before .before .before .before .before .before .before .before .before .pre .a)
+
+array-borrow-prefix-b : tie.Need-array-borrow-prefix-b
+array-borrow-prefix-b c = blank-in 7 _ 21320 (c .before .before .before .before .before .before .before .before .before .before .before .before .before .before .before .before .pre .b)
+
+slice-aggregate-holes-2 : tie.Need-slice-aggregate-holes-2
+slice-aggregate-holes-2 c = blank-front 7 _ 21320 (c .before .before .before .before .before .before .before .before .before .before .before .before .before .before .before .before .before .pre .b)
+
+array-borrow-prefix-c : tie.Need-array-borrow-prefix-c
+array-borrow-prefix-c c = blank-in 7 _ 21320 (c .before .before .before .before .before .before .before .before .before .before .before .before .before .before .before .before .before .pre .c)
+
+slice-aggregate-holes-3 : tie.Need-slice-aggregate-holes-3
+slice-aggregate-holes-3 c = blank-front 7 _ 21320 (c .before .before .before .before .before .before .before .before .before .before .before .before .before .before .before .before .before .before .pre .c)
+
+array-borrow-prefix-d : tie.Need-array-borrow-prefix-d
+array-borrow-prefix-d c = blank-in 7 _ 21320 (c .before .before .before .before .before .before .before .before .before .before .before .before .before .before .before .before .before .before .pre .d)
+
+slice-aggregate-holes-4 : tie.Need-slice-aggregate-holes-4
+slice-aggregate-holes-4 c = blank-front 7 _ 21320 (c .before .before .before .before .before .before .before .before .before .before .before .before .before .before .before .before .before .before .before .pre .d)
+
+holes-requires : tie.Need-holes-requires
+holes-requires c κs = tt
+
+number-requires : tie.Need-number-requires
+number-requires c κs = tt
+
+count-of-requires : tie.Need-count-of-requires
+count-of-requires c κs = tt
+
+returns : tie.Need-returns
+returns c = tt
+
+pub holes-of-spec : {M : Type 1} → statement M
+holes-of-spec =
+    tie.close
+    (tie.spec
+    front-requires
+    front-requires-2
+    front-requires-3
+    front-requires-4
+    front-requires-5
+    array-borrow-prefix-a
+    slice-aggregate-holes
+    array-borrow-prefix-b
+    slice-aggregate-holes-2
+    array-borrow-prefix-c
+    slice-aggregate-holes-3
+    array-borrow-prefix-d
+    slice-aggregate-holes-4
+    holes-requires
+    number-requires
+    count-of-requires
+    returns)

@@ -1,2 +1,0 @@
-mod Deepening
-mod Tally

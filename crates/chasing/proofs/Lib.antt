@@ -1,2 +1,0 @@
-pub mod Chasing
-pub mod Sides

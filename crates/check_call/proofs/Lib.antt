@@ -1,0 +1,3 @@
+mod Checked
+pub mod Judged
+mod Told

@@ -1,0 +1,75 @@
+use crate::labels;
+use drawing::parts;
+use region_names::names;
+use table_entries::entry;
+ghost use mathlib.Core.Path.{_≡_};
+ghost use mathlib.Core.Bool.{true};
+ghost use lib.ListN.{length, take};
+ghost use Rattle.point_darts.specs.Dart.{points, slots};
+ghost use Rattle.sheet_size.specs.Size.{within};
+ghost use Rattle.table_lengths.specs.Given.{tables};
+ghost use Rattle.drawing.specs.Parts.{masksOf, linesAgree, curvesAgree};
+
+// Whether next and side of level 1 are those of the sheet whose labels the sides tell. The masks of the points come out
+// at the front of a work table.
+pub fn lines_agree(
+    width: u16,
+    height: u16,
+    next1: &[u16],
+    side1: &[u16],
+    a: &mut [u16],
+    b: &mut [u16],
+    c: &mut [u16],
+    d: &mut [u16],
+) -> bool
+    requires { ⌜
+        (within width height ≡ true) × (length (now a) ≡ slots width height) × (length (now b) ≡ slots width height) ×
+        (length (now c) ≡ slots width height) × (length (now d) ≡ slots width height)
+        ⌝ }
+    ensures { λ r. ⌜
+        (r ≡ linesAgree width height (now (next1 .entry)) (now (side1 .entry))) ×
+        (take (points width height) (now (b .exit)) ≡ masksOf width height (now (side1 .entry)))
+        ⌝ }
+{
+    let cells = (width * height) as usize;
+    labels::recover(width, height, side1, &mut c[..cells]);
+    names::name_cells(width, height, &c[..cells], b, a);
+    draw::draw_lines(width, height, a, b, c, d);
+    entry::both_same(next1, c, side1, d)
+}
+
+// Whether level 3 and the parents are those of these next and sides of level 1, with the masks of its points given.
+pub fn curves_agree(
+    width: u16,
+    height: u16,
+    next1: &[u16],
+    side1: &[u16],
+    next3: &[u16],
+    other3: &[u16],
+    parent: &[u16],
+    a: &mut [u16],
+    b: &mut [u16],
+    c: &mut [u16],
+    d: &mut [u16],
+) -> bool
+    requires { ⌜
+        (within width height ≡ true) × (length (now side1) ≡ slots width height) × (length (now a) ≡ slots width height) ×
+        (length (now b) ≡ slots width height) × (length (now c) ≡ slots width height) ×
+        (length (now d) ≡ slots width height)
+        ⌝ }
+    ensures { λ r. ⌜
+        r ≡
+        curvesAgree width height
+        (tables (now (next1 .entry)) (now (side1 .entry)) (now (next3 .entry)) (now (other3 .entry)) (now (parent .entry)))
+        (take (points width height) (now (b .entry)))
+        ⌝ }
+{
+    draw::keep_points(width, height, side1, b, a, c);
+    draw::draw_curves(width, height, next1, c, d, b);
+    let names = (width * height + 1) as usize;
+    draw::draw_parents(width, height, side1, a, &mut c[..names]);
+    if !entry::both_same(next3, d, other3, b) {
+        return false;
+    }
+    entry::same(parent, &c[..names])
+}

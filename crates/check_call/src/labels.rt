@@ -1,0 +1,45 @@
+use point_darts::dart;
+use point_darts::dart::Dart;
+use table_entries::entry;
+ghost use mathlib.Core.Path.{_≡_};
+ghost use mathlib.Core.Bool.{true};
+ghost use Prim.Native.Nat.{_*_};
+ghost use lib.ListN.{length};
+ghost use Rattle.sheet_size.specs.Size.{within};
+ghost use Rattle.paper.specs.Drawing.{recovered};
+ghost use Rattle.check_call.specs.Told.{told};
+
+// The side of a dart where it is present, else the label to the left.
+fn told(side: &[u16], line: u16, left: u16) -> u16
+    ensures { λ r. ⌜ r ≡ told (now (side .entry)) line left ⌝ }
+{
+    let label = entry::get(side, line);
+    if label == dart::MARK {
+        return left;
+    }
+    label
+}
+
+// The label of each cell that the sides of level 1 tell: the side of the north dart of the cell's left line where that
+// is present, else the label of the cell to its left.
+pub fn recover(width: u16, height: u16, side: &[u16], labels: &mut [u16])
+    requires { ⌜ (within width height ≡ true) × (length (now labels) ≡ width * height) ⌝ }
+    ensures { λ _. ⌜ now (labels .exit) ≡ recovered width height (now (side .entry)) ⌝ }
+{
+    let n = width * height;
+    let mut label = dart::MARK;
+    let mut line = 4 * (width + 1) + Dart::NORTH;
+    let mut column: u16 = 0;
+    let mut i: u16 = 0;
+    while i < n {
+        label = told(side, line, label);
+        labels[i as usize] = label;
+        i += 1;
+        line += 4;
+        column += 1;
+        if column == width {
+            column = 0;
+            line += 4;
+        }
+    }
+}

@@ -1,2 +1,0 @@
-pub mod Card
-pub mod Outcome

@@ -1,3 +1,0 @@
-// What a deck is made of: a card, the part of it that holds its cells, and what reading and writing a deck answer.
-pub mod answer;
-pub mod card;

@@ -1,0 +1,7 @@
+pub mod Cards
+pub mod Every
+pub mod Headings
+pub mod Outcomes
+pub mod Parts
+pub mod Sizes
+pub mod Table

@@ -1,0 +1,3 @@
+pub mod Card
+pub mod Layout
+pub mod Outcome

@@ -1,0 +1,123 @@
+-- A card that is not refused is the card of its number and its content, and such a card is not refused.
+--   card k c        == the card numbered k with the content c
+use mathlib.Core.Path.{_≡_, refl, sym, ap, _∙_}
+use mathlib.Core.Bool.{true}
+use mathlib.Core.List.{List, [], _∷_, _++_, append-assoc}
+use Prim.Native.Nat.{ℕ, suc, _+_, _-_, _≤_, _<_}
+use native.Mathlib.Omega.{arith}
+use lib.Dec.{lit<}
+use lib.ListN.{length, getD, take, drop, replicate, length-drop, take-append-drop, drop-of-length-le}
+use lib.Seq.{slice, take-at, drop-at, length-take-le, drop-cons, take-take}
+use borrow.Author.Tests.{ne-eqb}
+use Rattle.laws.proofs.Test.{and-right}
+use Rattle.sheet_size.specs.Size.{within}
+use Rattle.sheet_size.proofs.Limit.{within-limits}
+use Rattle.deck_card.specs.Card.{columns, places, long, blank, feed, every, same, visible, digit, digits, padded, card}
+use Rattle.deck_card.specs.Card.{whole}
+use Rattle.deck_card.proofs.Parts.{is-whole, whole-is}
+use Rattle.deck_card.specs.Layout.{heading}
+use Rattle.deck_card.proofs.Cards.{length-card, card-content, card-feed, card-columns, card-number}
+use Rattle.deck_card.proofs.Every.{same-refl, same-true, every-blank, every-blanks}
+use Rattle.deck_card.proofs.Headings.{length-heading, heading-fits}
+use Rattle.deck_faults.specs.Fault.{numbered, frame, value, width, height, headed, header, row}
+use Rattle.deck_faults.proofs.Frames.{header-is, header-frame, header-headed, row-is, row-none, frame-none}
+
+-- A card with a content that fits it.
+module _ (k : ℕ) (c : List ℕ) (fits : length c ≤ columns) where
+  pub card-whole : whole (card k c) ≡ true
+  unfolding long
+  card-whole =
+      is-whole (card k c) (record {
+        length-is = length-card k c fits;
+        feed-is = card-feed k c fits (columns + places) (omega arith) (omega arith);
+      })
+
+  pub card-framed : frame k (card k c) ≡ 0
+  unfolding frame numbered long
+  card-framed =
+      let n : length (card k c) ≡ 0 → ⊥ = λ e. omega (arith, length-card k c fits) in
+      rw (ne-eqb (length (card k c)) 0 n, card-whole, card-number k c fits, same-refl)
+
+  -- its cells, and the blanks after them
+  pub card-cells : take (length c) (card k c) ≡ c
+  unfolding card padded
+  card-cells = ap (take (length c)) (append-assoc c _ _) ∙ take-at c _ (length c) refl
+
+  pub card-blanks : slice (length c) columns (card k c) ≡ replicate (columns - length c) blank
+  unfolding padded
+  card-blanks = ap (drop (length c)) (card-columns k c fits) ∙ drop-at c _ (length c) refl
+
+  -- with cells that may stand on it it is not refused
+  pub card-row : every visible c ≡ true → row (length c) k (card k c) ≡ 0
+  card-row v = rw (row-is (length c) k (card k c) card-framed, card-cells, v, card-blanks, every-blanks)
+
+-- A card whose frame is not refused: its content's columns, its number, the line feed.
+pub framed-is : (k : ℕ) (c : List ℕ) → frame k c ≡ 0 → c ≡ take columns c ++ (digits places k ++ (feed ∷ []))
+unfolding numbered long
+framed-is k c e =
+    let f = frame-none k c e in
+    let q = whole-is c (f .whole-is) in
+    let n = q .length-is in
+    let none = drop-of-length-le c {i = suc (columns + places)} (omega arith) in
+    let last = drop-cons c (columns + places) 0 (omega arith) ∙ (λ i. q .feed-is i ∷ none i) in
+    let front =
+    sym (take-append-drop columns (take (columns + places) c))
+    ∙ (λ i. take-take columns (columns + places) c (omega arith) i ++ same-true _ _ (f .number-is) i) in
+    sym (take-append-drop (columns + places) c) ∙ (λ i. front i ++ last i)
+    ∙ append-assoc (take columns c) (digits places k) (feed ∷ [])
+
+-- a row's card that is not refused
+pub row-card : (w k : ℕ) (c : List ℕ) → w ≤ columns → row w k c ≡ 0 → c ≡ card k (take w c)
+unfolding card padded long
+row-card w k c h e =
+    let r = row-none w k c e in
+    let n = whole-is c (frame-none k c (r .frame-is) .whole-is) .length-is in
+    let m = length-take-le columns c (omega arith) in
+    let a = length-take-le w c (omega arith) in
+    let b : length (slice w columns c) ≡ columns - length (take w c) = length-drop w (take columns c) ∙ omega arith in
+    let content =
+    sym (take-append-drop w (take columns c))
+    ∙ (λ i. take-take w columns c h i ++ every-blank (slice w columns c) (r .blanks-are) i)
+    ∙ ap (λ x. take w c ++ replicate x blank) b in
+    framed-is k c (r .frame-is) ∙ ap (λ x. x ++ (digits places k ++ (feed ∷ []))) content
+
+-- Two digits are read as they are written.
+value-digits : (n : ℕ) → n < 100 → value (digit n 1) (digit n 0) ≡ n
+unfolding value digit
+value-digits n h = omega arith
+
+-- a column of a header
+heading-at : (w h i : ℕ) → i < 10 → getD (card 1 (heading w h)) i 0 ≡ getD (heading w h) i 0
+heading-at w h i b = card-content 1 (heading w h) (heading-fits w h) i (rw length-heading b)
+
+-- The header of a sheet of a size that is one.
+module _ (w h : ℕ) (size : within w h ≡ true) where
+  pub heading-width : width (card 1 (heading w h)) ≡ w
+  unfolding width heading digits
+  heading-width =
+      let i = within-limits w h size .widest in
+      (λ j. value (heading-at w h 6 (lit< tt) j) (heading-at w h 7 (lit< tt) j)) ∙ value-digits w (omega arith)
+
+  pub heading-height : height (card 1 (heading w h)) ≡ h
+  unfolding height heading digits
+  heading-height =
+      let i = within-limits w h size .highest in
+      (λ j. value (heading-at w h 8 (lit< tt) j) (heading-at w h 9 (lit< tt) j)) ∙ value-digits h (omega arith)
+
+  -- it is not refused
+  pub heading-header : header (card 1 (heading w h)) ≡ 0
+  unfolding headed
+  heading-header =
+      let c = heading w h in
+      let framed = header-is (card 1 c) (card-framed 1 c (heading-fits w h)) in
+      rw (framed, heading-width, heading-height, size, card-columns 1 c (heading-fits w h), same-refl)
+
+-- a header that is not refused
+pub header-card : (c : List ℕ) → header c ≡ 0 → c ≡ card 1 (heading (width c) (height c))
+unfolding card headed
+header-card c e =
+    let w = width c in
+    let h = height c in
+    let p = and-right (within w h) (same (take columns c) (padded (heading w h))) (header-headed c e) in
+    framed-is 1 c (header-frame c e)
+    ∙ ap (λ x. x ++ (digits places 1 ++ (feed ∷ []))) (same-true (take columns c) (padded (heading w h)) p)

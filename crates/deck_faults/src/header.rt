@@ -1,0 +1,64 @@
+use crate::frame;
+use deck_card::bytes;
+use deck_card::card::COLUMNS;
+use deck_card::layout;
+ghost use mathlib.Core.Path.{_≡_};
+ghost use Prim.Native.Nat.{_-_};
+ghost use lib.ListN.{getD};
+ghost use Rattle.deck_faults.specs.Fault.{value, width, height, header};
+
+// The byte at a place, 0 past the end.
+fn at(bytes: &[u8], place: usize) -> u8
+    ensures { λ r. ⌜ r ≡ getD (now (bytes .entry)) place 0 ⌝ }
+{
+    if place < bytes.len() { bytes[place] } else { 0 }
+}
+
+// The value of a digit's byte, 0 below the digits.
+fn worth(byte: u8) -> u16
+    ensures { λ r. ⌜ r ≡ byte - 48 ⌝ }
+{
+    if byte < 48 { 0 } else { (byte - 48) as u16 }
+}
+
+// The number with two digits.
+fn value(tens: u8, ones: u8) -> u16
+    ensures { λ r. ⌜ r ≡ value tens ones ⌝ }
+{
+    10 * worth(tens) + worth(ones)
+}
+
+// The width that a header names.
+pub fn width(card: &[u8]) -> u16
+    ensures { λ r. ⌜ r ≡ width (now (card .entry)) ⌝ }
+{
+    value(at(card, 6), at(card, 7))
+}
+
+// The height that a header names.
+pub fn height(card: &[u8]) -> u16
+    ensures { λ r. ⌜ r ≡ height (now (card .entry)) ⌝ }
+{
+    value(at(card, 8), at(card, 9))
+}
+
+// The refusal of a header: its frame's, or 21 where it is not the header of the size that it names, or the size is none;
+// else 0.
+pub fn refusal(card: &[u8]) -> u16
+    ensures { λ r. ⌜ r ≡ header (now (card .entry)) ⌝ }
+{
+    let frame = frame::refusal(card, 1);
+    if frame != 0 {
+        return frame;
+    }
+    let width = width(card);
+    let height = height(card);
+    if !sheet_size::within(width, height) {
+        return 21;
+    }
+    let content = layout::heading(width, height);
+    if !bytes::agrees(card, &content, 1, 0, COLUMNS) {
+        return 21;
+    }
+    0
+}

@@ -1,0 +1,2 @@
+pub mod Judging
+pub mod Reading

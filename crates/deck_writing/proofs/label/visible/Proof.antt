@@ -1,0 +1,79 @@
+use mathlib.Core.Path.{_≡_, refl, sym, _∙_}
+use Prim.Native.Nat.{_-_}
+use native.Mathlib.Omega.{arith}
+use lib.ListN.{length, drop}
+use Rattle.deck_card.specs.Card.{lowest, highest, every, visible}
+use Rattle.deck_card.proofs.Every.{between-below, between-above, between-inside, every-stop, every-go, every-end}
+use Rattle.deck_writing.proofs.label.visible.Statement.{statement}
+use Rattle.deck_writing.proofs.label.visible.Tie as tie
+
+abbrev Inv-loop : tie.InvT-loop
+Inv-loop sheet i₀ i = every visible (drop i sheet) ≡ every visible sheet
+
+abbrev μ-loop : tie.MeasureT-loop
+μ-loop sheet i₀ i = length sheet - i
+
+loop-holds : tie.Need-loop-holds Inv-loop μ-loop
+loop-holds c = refl
+
+mul-if1 : tie.Need-mul-if1 Inv-loop μ-loop
+mul-if1 c = omega arith
+
+shared-slice-read-if1 : tie.Need-shared-slice-read-if1 Inv-loop μ-loop
+shared-slice-read-if1 c = omega arith
+
+returns : tie.Need-returns Inv-loop μ-loop
+unfolding lowest highest visible
+returns c =
+    let at-loop-test = c .before .before in
+    let at-loop = at-loop-test .before in
+    sym (every-stop _ _ _ (at-loop-test .loop-test .taken) (between-below _ _ _ (c .if1 .taken))) ∙ at-loop .loop .inv
+
+mul-if2 : tie.Need-mul-if2 Inv-loop μ-loop
+mul-if2 c = omega arith
+
+shared-slice-read-if2 : tie.Need-shared-slice-read-if2 Inv-loop μ-loop
+shared-slice-read-if2 c = omega arith
+
+returns-2 : tie.Need-returns-2 Inv-loop μ-loop
+unfolding lowest highest visible
+returns-2 c =
+    let at-loop-test = c .before .before .before .before in
+    let at-loop = at-loop-test .before in
+    sym (every-stop _ _ _ (at-loop-test .loop-test .taken) (between-above _ _ _ (c .if2 .taken))) ∙ at-loop .loop .inv
+
+add-i : tie.Need-add-i Inv-loop μ-loop
+add-i c = omega arith
+
+loop-less : tie.Need-loop-less Inv-loop μ-loop
+loop-less c = omega arith
+
+loop-again : tie.Need-loop-again Inv-loop μ-loop
+unfolding lowest highest visible
+loop-again c =
+    let at-if1 = c .before .before in
+    let at-loop-test = at-if1 .before .before in
+    let at-loop = at-loop-test .before in
+    every-go _ _ _ (at-loop-test .loop-test .taken) (between-inside _ _ _ (at-if1 .if1 .left) (c .if2 .left))
+    ∙ at-loop .loop .inv
+
+returns-3 : tie.Need-returns-3 Inv-loop μ-loop
+returns-3 c = sym (every-end _ _ _ (c .loop-test .left)) ∙ c .before .loop .inv
+
+pub visible-spec : {M : Type 1} → statement M
+visible-spec =
+    tie.close
+    (tie.spec
+    Inv-loop
+    μ-loop
+    loop-holds
+    mul-if1
+    shared-slice-read-if1
+    returns
+    mul-if2
+    shared-slice-read-if2
+    returns-2
+    add-i
+    loop-less
+    loop-again
+    returns-3)

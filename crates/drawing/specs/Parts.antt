@@ -1,0 +1,56 @@
+-- What is drawn, part by part. A work table is used at its front.
+--   Lined ..        == level 1 is drawn from the names f with the outside round them: masks, next and side
+--   Kept ..         == the points that level 3 keeps are found, from the sides of level 1 and its masks: tops and kept points
+--   Curved ..       == level 3 is drawn from level 1 next and the kept points
+use mathlib.Core.Path.{_≡_}
+use mathlib.Core.Bool.{Bool, _&&_}
+use mathlib.Core.List.{List}
+use Prim.Native.Nat.{ℕ, _+_, _*_}
+use lib.ListN.{take}
+use Rattle.laws.specs.Table.{table}
+use Rattle.point_darts.specs.Dart.{points}
+use Rattle.paper.specs.Name.{names}
+use Rattle.paper.specs.Level.{tops}
+use Rattle.paper.specs.Enclosure.{parent}
+use Rattle.paper.specs.Drawing.{Tables, recovered, alike}
+use Rattle.paper.specs.Joining.{at, on}
+use Rattle.region_names.specs.Frame.{framed}
+use Rattle.level_lines.specs.Mask.{masked}
+use Rattle.level_lines.specs.Line.{nexts}
+use Rattle.level_lines.specs.Side.{sides}
+use Rattle.level_curves.specs.Keep.{keeps}
+use Rattle.level_curves.specs.Link.{alongNext, alongOther}
+
+pub record Lined (w h : ℕ) (f m x s : List ℕ) : Type 0 where
+  pub masks : take (points w h) m ≡ masked w h f
+  pub next : x ≡ nexts w h (masked w h f)
+  pub side : s ≡ sides w h f (masked w h f)
+
+pub record Kept (w h : ℕ) (s m t k : List ℕ) : Type 0 where
+  pub tops : take (points w h) t ≡ tops w h (on s)
+  pub points : take (points w h) k ≡ keeps w h m (take (points w h) t)
+
+pub record Curved (w h : ℕ) (x k y o : List ℕ) : Type 0 where
+  pub next : y ≡ alongNext w h x k
+  pub other : o ≡ alongOther w h x k
+
+-- The judge, part by part: labels are recovered from the sides of level 1, and all is drawn again from them.
+--   roundOf w h s   == the names of these labels, with the outside round them
+--   masksOf w h s   == the masks of the lines of level 1 between them
+--   linesAgree ..   == next and side of level 1 are those drawn again
+--   curvesAgree ..  == level 3 and the parents are those that next and side of level 1 tell, with the masks m
+unfoldable pub roundOf : ℕ → ℕ → List ℕ → List ℕ
+roundOf w h s = framed w h (names w h (recovered w h s))
+
+unfoldable pub masksOf : ℕ → ℕ → List ℕ → List ℕ
+masksOf w h s = masked w h (roundOf w h s)
+
+unfoldable pub linesAgree : ℕ → ℕ → List ℕ → List ℕ → Bool
+linesAgree w h x s = alike x (nexts w h (masksOf w h s)) && alike s (sides w h (roundOf w h s) (masksOf w h s))
+
+unfoldable pub curvesAgree : ℕ → ℕ → Tables → List ℕ → Bool
+curvesAgree w h t m =
+    let p = tops w h (on (t .side1)) in
+    let k = keeps w h m p in
+    alike (t .next3) (alongNext w h (t .next1) k) && alike (t .other3) (alongOther w h (t .next1) k)
+    && alike (t .parent) (table (w * h + 1) (parent w (on (t .side1)) (at (t .side1)) p))

@@ -1,2 +1,0 @@
-// The names of the cells with the outside round them.
-pub mod frame;

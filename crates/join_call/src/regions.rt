@@ -1,0 +1,80 @@
+use check_call::check;
+use join_answer::answer::Joined;
+use join_answer::asked;
+use join_rule::apply;
+ghost use mathlib.Core.Path.{_≡_};
+ghost use mathlib.Core.List.{[]};
+ghost use Rattle.paper.specs.Refusal.{five, merged};
+ghost use Rattle.table_lengths.specs.Given.{tables, works};
+ghost use Rattle.drawing.specs.Answer.{left};
+ghost use Rattle.join_answer.specs.Answer.{number};
+ghost use Rattle.join_call.specs.Faithful.{Faithful};
+
+// Joins the regions a and b of a drawing, in its five tables, which come to equal the drawing afresh. Refusals 1, 4, 5,
+// then 6 where a name is 0, 7 where the names are equal, 8 where no region has one of them, 9 where the two share no
+// line. A refusal leaves the five tables as they are; the work tables are left at 1 and 4, else cleared.
+pub fn join(
+    width: u16,
+    height: u16,
+    next1: &mut [u16],
+    side1: &mut [u16],
+    next3: &mut [u16],
+    other3: &mut [u16],
+    parent: &mut [u16],
+    a: u16,
+    b: u16,
+    work_a: &mut [u16],
+    work_b: &mut [u16],
+    work_c: &mut [u16],
+    work_d: &mut [u16],
+) -> Joined
+    ensures { λ r. ⌜
+        (left (number r) []
+        (five
+        (tables (now (next1 .exit)) (now (side1 .exit)) (now (next3 .exit)) (now (other3 .exit)) (now (parent .exit))))
+        (works (now («work_a» .exit)) (now («work_b» .exit)) (now («work_c» .exit)) (now («work_d» .exit))) ≡
+        merged width height
+        (tables (now (next1 .entry)) (now (side1 .entry)) (now (next3 .entry)) (now (other3 .entry)) (now (parent .entry)))
+        a
+        b
+        (works (now («work_a» .entry)) (now («work_b» .entry)) (now («work_c» .entry)) (now («work_d» .entry)))) ×
+        (number r ≡ 0 →
+        Faithful width height
+        (tables (now (next1 .entry)) (now (side1 .entry)) (now (next3 .entry)) (now (other3 .entry)) (now (parent .entry)))
+        (tables (now (next1 .exit)) (now (side1 .exit)) (now (next3 .exit)) (now (other3 .exit)) (now (parent .exit)))
+        a
+        b)
+        ⌝ }
+{
+    let verdict = check::check(
+        width,
+        height,
+        next1,
+        side1,
+        next3,
+        other3,
+        parent,
+        work_a,
+        work_b,
+        work_c,
+        work_d,
+    );
+    let answer = asked::asked(verdict, width, height, side1, parent, a, b);
+    let Joined::Done = answer else {
+        return answer;
+    };
+    apply::apply(
+        width,
+        height,
+        a,
+        b,
+        next1,
+        side1,
+        next3,
+        other3,
+        parent,
+        work_a,
+        work_b,
+    );
+    Joined::Done
+}

@@ -1,0 +1,5 @@
+pub mod Going
+pub mod Listing
+pub mod Narrowing
+pub mod Reversals
+mod Seeing

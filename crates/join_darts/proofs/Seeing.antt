@@ -1,0 +1,46 @@
+-- What is seen at a point.
+--   at t d, on t d  == the entry of dart d, the mark past the end; that it is not the mark
+use mathlib.Core.Path.{_≡_}
+use mathlib.Core.Bool.{true, not, _||_}
+use mathlib.Core.List.{List}
+use Prim.Native.Nat.{ℕ, _+_, _*_, _≤_, _<_, zero-le}
+use native.Mathlib.Nat.{add-zero, one-mul, mul-zero, mul-one, le-refl}
+use lib.Dec.{eqb}
+use borrow.Author.Tests.{eq-eqb, ne-eqb}
+use Rattle.laws.specs.Table.{number}
+use Rattle.point_darts.specs.Dart.{mark, dart}
+use Rattle.point_darts.specs.Point.{bits, degree}
+use Rattle.point_rules.specs.Turn.{becoming}
+use Rattle.point_rules.proofs.Becoming.{becoming-two}
+use Rattle.paper.specs.Level.{mask}
+use Rattle.paper.specs.Joining.{at, on}
+use Rattle.paper_laws.proofs.Next.{mask-below}
+
+-- a weight where what was found is not the mark, else 0
+pub where-off : (r v : ℕ) → r ≡ mark → (0 ≡ v * number (not (eqb r mark))) × (0 ≤ v)
+where-off r v e = (rw (eq-eqb r mark e, mul-zero), zero-le)
+
+pub where-on : (r v : ℕ) → (r ≡ mark → ⊥) → (v ≡ v * number (not (eqb r mark))) × (v ≤ v)
+where-on r v n = (rw (ne-eqb r mark n, mul-one), le-refl v)
+
+-- The mask of a point, line by line.
+pub mask-sum : (e s w n a b c d : ℕ) → a ≡ 1 * number (not (eqb e mark)) → b ≡ 2 * number (not (eqb s mark))
+    → c ≡ 4 * number (not (eqb w mark)) → d ≡ 8 * number (not (eqb n mark)) → (t : List ℕ) (p : ℕ) → e ≡ at t (4 * p)
+    → s ≡ at t (4 * p + 1) → w ≡ at t (4 * p + 2) → n ≡ at t (4 * p + 3)
+    → (a + b + c + d ≡ mask (on t) p) × (a + b + c + d < 16)
+unfolding mask bits dart on
+mask-sum e s w n a b c d i j k l t p x y z u = (sum, rw sum (mask-below (on t) p))
+  where
+    sum : a + b + c + d ≡ mask (on t) p
+    sum = rw (add-zero, i, j, k, l, x, y, z, u, one-mul)
+
+-- whether two lines are left
+module _ (m l k : ℕ) (a : m < 16) (b : l < 16) (e : k ≡ becoming m l) where
+  said : (eqb k 1 || eqb k 2) ≡ eqb (degree l) 2
+  said = rw e (becoming-two m l a b)
+
+  pub two-in-line : k ≡ 1 → true ≡ eqb (degree l) 2
+  two-in-line f = rw (eq-eqb k 1 f) at said
+
+  pub two-corner : (k ≡ 1 → ⊥) → eqb k 2 ≡ eqb (degree l) 2
+  two-corner n = rw (ne-eqb k 1 n) at said

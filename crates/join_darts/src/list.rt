@@ -1,0 +1,84 @@
+// Lists of the darts of two regions: the darts listed, and a list narrowed to those that have a next.
+use point_darts::dart;
+ghost use mathlib.Core.Path.{_≡_};
+ghost use mathlib.Core.Bool.{_&&_, _||_};
+ghost use Prim.Native.Nat.{_≤_, _<_};
+ghost use lib.Dec.{eqb};
+ghost use lib.ListN.{length};
+ghost use Rattle.point_darts.specs.Dart.{mark};
+ghost use Rattle.paper.specs.Joining.{on};
+ghost use Rattle.join_darts.specs.Listed.{bounds, First, Listed, Lined, Walked};
+
+// Whether a side is a or b.
+fn is_either(side: u16, a: u16, b: u16) -> bool
+    ensures { λ r. ⌜ r ≡ (eqb side a || eqb side b) ⌝ }
+{
+    if side == a {
+        return true;
+    }
+    side == b
+}
+
+// Lists the darts with side a or b: each leads to the one after it, the last to the number of slots. It answers the first,
+// the number of slots where there is none.
+pub fn list_darts(side: &[u16], a: u16, b: u16, list: &mut [u16]) -> u16
+    requires { ⌜ (length (now side) ≡ length (now list)) × (length (now list) ≤ mark) ⌝ }
+    ensures { λ r. ⌜
+        Listed (bounds (now (side .entry)) a b) (length (now (list .entry))) r (now (list .exit))
+        ⌝ }
+{
+    let mut i = list.len();
+    let mut first = i as u16;
+    while 0 < i {
+        i -= 1;
+        if is_either(side[i], a, b) {
+            list[i] = first;
+            first = i as u16;
+        }
+    }
+    first
+}
+
+// The first dart, from a dart of a list on, that has a next; the number of slots where there is none.
+fn reach(next: &[u16], list: &[u16], from: u16) -> u16
+    requires { ⌜
+        (length (now list) ≤ mark) × (length (now next) ≡ length (now list)) ×
+        Walked (length (now list)) from (now list)
+        ⌝ }
+    ensures { λ r. ⌜
+        ((g : Walked (length (now (list .entry))) from (now (list .entry))) →
+        First (λ d. g .test d && on (now (next .entry)) d) (length (now (list .entry))) (g .start) r)
+        ⌝ }
+{
+    let n = list.len() as u16;
+    let mut dart = from;
+    while dart < n {
+        if next[dart as usize] != dart::MARK {
+            return dart;
+        }
+        dart = list[dart as usize];
+    }
+    dart
+}
+
+// Leaves in a list the darts that have a next. It answers the first, the number of slots where there is none.
+pub fn narrow(next: &[u16], first: u16, list: &mut [u16]) -> u16
+    requires { ⌜
+        (length (now list) ≤ mark) × (length (now next) ≡ length (now list)) ×
+        Lined (length (now list)) first (now list)
+        ⌝ }
+    ensures { λ r. ⌜
+        ((g : Lined (length (now (list .entry))) first (now (list .entry))) →
+        Listed (λ d. g .test d && on (now (next .entry)) d) (length (now (list .entry))) r (now (list .exit)))
+        ⌝ }
+{
+    let n = list.len() as u16;
+    let start = reach(next, list, first);
+    let mut dart = start;
+    while dart < n {
+        let after = reach(next, list, list[dart as usize]);
+        list[dart as usize] = after;
+        dart = after;
+    }
+    start
+}

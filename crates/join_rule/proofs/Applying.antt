@@ -1,0 +1,66 @@
+-- Joining, step by step.
+--   removed ..      == the links after step 1
+use mathlib.Core.Path.{_≡_, sym, _∙_, ap}
+use mathlib.Core.Bool.{Bool, true, cond}
+use mathlib.Core.List.{List}
+use Prim.Native.Nat.{ℕ, _+_, _*_, _<_}
+use lib.ListN.{length, replicate}
+use Rattle.laws.specs.Table.{table}
+use Rattle.laws.specs.Least.{lower}
+use Rattle.point_darts.specs.Dart.{mark, points, slots, reversal}
+use Rattle.paper.specs.Level.{tops, marked}
+use Rattle.paper.specs.Enclosure.{parent, parents}
+use Rattle.paper.specs.Joining.{Links, at, on, shared, removed, rest1, rest3, smoothed, closes, closed, joined}
+use Rattle.paper.specs.Refusal.{cleared}
+use Rattle.paper_laws.proofs.Piece.{tops-le}
+use Rattle.table_lengths.specs.Given.{tables}
+use Rattle.region_parents.specs.Tops.{Rising}
+use Rattle.join_darts.specs.Links.{links}
+use Rattle.join_rule.specs.Apply.{pair}
+use Rattle.join_rule.proofs.Fewer.{removed-fewer, on-lowered}
+
+-- Steps 3 and 4.
+module _ (w h : ℕ) (o : ℕ → Bool) (t : List ℕ) (e : t ≡ tops w h o) where
+  pub tops-rising : Rising t
+  tops-rising = rw e (record { up = tops-le w h o })
+
+  pub settle-links : (l k j : Links) → k ≡ smoothed w h l → j ≡ closes o t (points w h) 0 k
+      → j ≡ closed w h o (smoothed w h l)
+  unfolding closed
+  settle-links l k j f g = g ∙ rw (e, f)
+
+-- All steps, from the tables n, s, m, o, p to the tables n₁, s₁, m₁, o₁, p₁; k has the links of level 3 after step 1.
+module _ (w h a b : ℕ) (n s m o p : List ℕ) (u : a < mark) (v : b < mark) (long : length s ≡ slots w h)
+    (sided : (d : ℕ) → on n d ≡ true → on s d ≡ true) (n₁ s₁ m₁ o₁ p₁ : List ℕ) (k : Links)
+    (plain : n₁ ≡ removed w h (links n (table (slots w h) (reversal w))) (shared s (at (table (slots w h) (reversal w))) a b) .next)
+    (curves : k ≡ removed w h (links m o) (shared s (at o) a b))
+    (settled : links m₁ o₁ ≡ closed w h (on n₁) (smoothed w h k))
+    (lowered : s₁ ≡ table (length s) (λ d. cond (on n₁ d) (lower a b (at s d)) mark))
+    (found : p₁ ≡ table (w * h + 1) (parent w (on s₁) (at s₁) (tops w h (on n₁)))) where
+  sides : s₁ ≡ marked w h (on n₁) (λ d. lower a b (at s d))
+  unfolding marked
+  sides = lowered ∙ ap (λ z. table z (λ d. cond (on n₁ d) (lower a b (at s d)) mark)) long
+
+  -- the sides are on the lines that remain
+  same-lines : on s₁ ≡ on n₁
+  same-lines =
+      rw sides
+      (on-lowered w h a b s n₁ u v long
+      (λ d q.
+      sided d
+      (removed-fewer w h (links n (table (slots w h) (reversal w))) (shared s (at (table (slots w h) (reversal w))) a b) d
+      (rw plain at q))))
+
+  named : p₁ ≡ parents w h (on s₁) (at s₁)
+  unfolding parents
+  named = found ∙ ap (λ z. table (w * h + 1) (parent w (on s₁) (at s₁) (tops w h z))) (sym same-lines)
+
+  pub all-steps : tables n₁ s₁ m₁ o₁ p₁ ≡ joined w h (tables n s m o p) a b
+  unfolding joined rest1 rest3
+  all-steps = rw (← plain, ← sides, ← curves, ← settled, ← named)
+
+-- two work tables cleared
+pub pair-cleared : (x y u v : List ℕ) (i j : ℕ) → u ≡ replicate i 0 → v ≡ replicate j 0 → i ≡ length x → j ≡ length y
+    → pair u v ≡ cleared (pair x y)
+unfolding cleared
+pair-cleared x y u v i j e f p q = rw (e, f, p, q)

@@ -1,0 +1,110 @@
+-- A drawing is ready for the joining of two regions that it has.
+use mathlib.Core.Path.{_≡_, refl, _∙_}
+use mathlib.Core.Bool.{Bool, true, false, _&&_}
+use mathlib.Core.List.{List, [], _∷_}
+use Prim.Native.Nat.{ℕ, _+_, _*_, _<_}
+use native.Mathlib.Omega.{arith}
+use lib.Dec.{eqb}
+use lib.ListN.{length}
+use borrow.Author.Tests.{eq-eqb}
+use Rattle.laws.proofs.Test.{and-true, and-left, and-right}
+use Rattle.sheet_size.specs.Size.{within}
+use Rattle.laws.specs.Table.{table}
+use Rattle.point_darts.specs.Dart.{mark, slots, reversal}
+use Rattle.paper.specs.Name.{names}
+use Rattle.paper.specs.Level.{side, border, next, plain, level}
+use Rattle.paper.specs.Drawing.{Tables, drawn, drawing, Drawn}
+use Rattle.paper.specs.Joining.{on}
+use Rattle.paper.specs.Refusal.{sized, stated, used}
+use Rattle.paper_laws.proofs.Sheet.{border-below}
+use Rattle.paper_laws.proofs.Marks.{on-marked, cells-slots, within-fits, names-side-small}
+use Rattle.table_lengths.specs.Given.{tables, works}
+use Rattle.table_lengths.proofs.Tested.{Long, stated-long, stated-parent}
+use Rattle.join_shared.specs.Mapped.{Mapped, Bare}
+use Rattle.join_rule.specs.Apply.{pair, Ready}
+use Rattle.join_rule.proofs.Fewer.{marked-held, on-below}
+use Rattle.join_rule.proofs.Mapping.{plain-mapped, curves-mapped, curves-bare}
+
+-- every line of a drawing has its sides
+drawing-sided : (w h : ℕ) (s : List ℕ) → within w h ≡ true → (d : ℕ) → on (drawing w h s .next1) d ≡ true
+    → on (drawing w h s .side1) d ≡ true
+unfolding drawing drawn level plain
+drawing-sided w h s e d q =
+    let n = names w h s in
+    on-marked w h (border w h n) (side w h n) (border-below w h n)
+    (λ d _. names-side-small w h s (within-fits w h e) d) d
+    ∙ marked-held w h (border w h n) (next w (border w h n)) d q
+
+-- its links are those of maps
+drawing-plain : (w h : ℕ) (s : List ℕ) → within w h ≡ true
+    → Mapped (drawing w h s .side1) (drawing w h s .next1) (table (slots w h) (reversal w))
+unfolding drawing
+drawing-plain w h s e = plain-mapped w h (names w h s) (within-fits w h e)
+
+drawing-curves : (w h : ℕ) (s : List ℕ) → within w h ≡ true
+    → Mapped (drawing w h s .side1) (drawing w h s .next3) (drawing w h s .other3)
+unfolding drawing
+drawing-curves w h s e = curves-mapped w h (names w h s) (within-fits w h e)
+
+drawing-bare : (w h : ℕ) (s : List ℕ) → within w h ≡ true → Bare (drawing w h s .next3) (drawing w h s .other3)
+unfolding drawing
+drawing-bare w h s e = curves-bare w h (names w h s) (within-fits w h e)
+
+-- a name that is in use is below the mark
+used-small : (w h : ℕ) (t : Tables) (ws : List (List ℕ)) (a : ℕ) → within w h ≡ true → stated w h t ws ≡ true
+    → used t a ≡ true → a < mark
+unfolding used
+used-small w h t ws a e f u =
+    omega (arith, stated-parent w h t ws f, on-below (t .parent) a u, cells-slots w h, within-fits w h e)
+
+pub drawn-ready : (w h : ℕ) (t : Tables) (ws : List (List ℕ)) (a b : ℕ) → within w h ≡ true → stated w h t ws ≡ true
+    → Drawn w h t → used t a ≡ true → used t b ≡ true → Ready w h t ws a b
+drawn-ready w h t ws a b e f g u v =
+    record {
+      size = e;
+      sizes = f;
+      first = used-small w h t ws a e f u;
+      second = used-small w h t ws b e f v;
+      sided = rw (← (g .same)) (drawing-sided w h (g .labels) e);
+      plain = rw (← (g .same)) (drawing-plain w h (g .labels) e);
+      curves = rw (← (g .same)) (drawing-curves w h (g .labels) e);
+      bare = rw (← (g .same)) (drawing-bare w h (g .labels) e);
+    }
+
+-- Two work tables, the first of four.
+first-thrice : (e d : Bool) → (e && d) ≡ true → (e && (e && (e && d))) ≡ true
+first-thrice true d h = h
+first-thrice false d h = h
+
+-- the five tables have the stated lengths
+abbrev five-stated : ℕ → ℕ → Tables → Bool
+five-stated w h t =
+    sized (slots w h) (t .next1 ∷ t .side1 ∷ t .next3 ∷ t .other3 ∷ []) && sized (w * h + 1) (t .parent ∷ [])
+
+pub pair-long : (w h : ℕ) (x s y o p a d : List ℕ) → stated w h (tables x s y o p) (pair a d) ≡ true
+    → Long w h (length x) (length s) (length y) (length o) (length p) (length a) (length a) (length a) (length d)
+unfolding stated sized
+pair-long w h x s y o p a d e =
+    let five = five-stated w h (tables x s y o p) in
+    let both : Bool = sized (slots w h) (pair a d) in
+    stated-long w h x s y o p a a a d
+    (and-true {a = five} (and-left five both e)
+    (first-thrice (eqb (length a) (slots w h)) (eqb (length d) (slots w h) && true) (and-right five both e)))
+
+pub ready-pair : (w h : ℕ) (x s y o p a b c d : List ℕ) (i j : ℕ) → Ready w h (tables x s y o p) (works a b c d) i j
+    → Ready w h (tables x s y o p) (pair a b) i j
+unfolding stated sized
+ready-pair w h x s y o p a b c d i j r =
+    let five = five-stated w h (tables x s y o p) in
+    let z = stated-long w h x s y o p a b c d (r .sizes) .work in
+    record {
+      size = r .size;
+      sizes = and-true {a = five} (and-left five (sized (slots w h) (works a b c d)) (r .sizes))
+          (and-true (eq-eqb _ _ (z .0)) (and-true (eq-eqb _ _ (z .1)) refl));
+      first = r .first;
+      second = r .second;
+      sided = r .sided;
+      plain = r .plain;
+      curves = r .curves;
+      bare = r .bare;
+    }

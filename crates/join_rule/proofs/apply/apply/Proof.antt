@@ -1,0 +1,245 @@
+use mathlib.Core.Path.{_≡_, sym, _∙_}
+use mathlib.Core.List.{_++_}
+use Prim.Native.Nat.{ℕ, _+_, _*_, _≤_}
+use native.Mathlib.Omega.{arith}
+use lib.ListN.{length, drop}
+use lib.Seq.{length-take-le, length-front}
+use Rattle.point_darts.specs.Dart.{points, slots}
+use Rattle.sheet_size.proofs.Limit.{within-limits}
+use Rattle.point_darts.proofs.Fit.{points-fit}
+use Rattle.paper_laws.proofs.Marks.{within-fits}
+use Rattle.join_darts.specs.Listed.{bounds, Lined}
+use Rattle.join_darts.proofs.Listing.{bounded-all, bounded-on}
+use Rattle.join_rule.proofs.Applying.{all-steps, pair-cleared}
+use Rattle.join_rule.proofs.Readiness.{pair-long}
+use Rattle.join_rule.proofs.apply.apply.Statement.{statement}
+use Rattle.join_rule.proofs.apply.apply.Tie as tie
+
+-- From each call back to the call before it, and to the start.
+abbrev start : tie.After-list-darts → tie.Start
+start c = c .before .before .before .before .before .before .before .before .before .before
+
+abbrev listed : tie.After-remove-plain-shared → tie.After-list-darts
+listed c = c .before .before .before .before .before .before .before
+
+abbrev plain : tie.After-narrow → tie.After-remove-plain-shared
+plain c = c .before .before .before .before .before .before .before
+
+abbrev narrowed : tie.After-remove-shared → tie.After-narrow
+narrowed c = c .before .before .before .before .before .before .before
+
+abbrev curved : tie.After-settle → tie.After-remove-shared
+curved c = c .before .before .before .before .before .before .before .before .before .before .before
+
+abbrev settled : tie.After-clear → tie.After-settle
+settled c = c .before .before .before .before .before .before .before .before .before .before .before .before
+
+abbrev backless : tie.After-clear2 → tie.After-clear
+backless c = c .before .before .before .before
+
+abbrev cleared : tie.After-slice-known20 → tie.After-clear2
+cleared c = c .before .before
+
+abbrev end : tie.After-slice-known20 → tie.After-settle
+end c = settled (backless (cleared c))
+
+-- The list is as long as the work table that it stands in, and has room for the tops.
+list-long : (c : tie.After-list-darts)
+    → length (c .list-darts .last .1 .1 .1 .0) ≡ slots (start c .args .width) (start c .args .height)
+list-long c =
+    let z = pair-long _ _ _ _ _ _ _ _ _ (start c .pre .sizes) in
+    c .list-darts .kept .1 .1 .1 .0 ∙ z .work .3
+
+-- It has the darts of a and b.
+abbrev lined-bounds : (c : tie.After-list-darts)
+    → Lined (length (c .list-darts .last .1 .1 .1 .0)) (c .list-darts .result) (c .list-darts .last .1 .1 .1 .0)
+lined-bounds c =
+    let a = start c .args in
+    record {
+      test = bounds (a .side1 .now) (a .a) (a .b);
+      list = rw (c .list-darts .kept .1 .1 .1 .0) (c .list-darts .ensures);
+    }
+
+narrow-long : (c : tie.After-narrow)
+    → length (c .narrow .last .1 .1 .0)
+    ≡ slots (start (listed (plain c)) .args .width) (start (listed (plain c)) .args .height)
+narrow-long c = c .narrow .kept .1 .1 .0 ∙ list-long (listed (plain c))
+
+work-room : (c : tie.After-narrow)
+    → (start (listed (plain c)) .args .width + 1) * (start (listed (plain c)) .args .height + 1)
+    ≤ length (c .narrow .last .1 .1 .0)
+unfolding slots points
+work-room c = omega (arith, narrow-long c)
+
+list-darts-requires : tie.Need-list-darts-requires
+list-darts-requires c κs =
+    let q = c .before .before .before .before .before .before .before .before .before .pre in
+    let z = pair-long _ _ _ _ _ _ _ _ _ (q .sizes) in
+    (z .lines .1 ∙ sym (z .work .3), omega (arith, z .work .3, within-fits _ _ (q .size)))
+
+remove-plain-shared-requires : tie.Need-remove-plain-shared-requires
+remove-plain-shared-requires c κs =
+    let l = c .before .before .before .before .before .before in
+    let q = start l .pre in
+    let z = pair-long _ _ _ _ _ _ _ _ _ (q .sizes) in (
+      q .size,
+      q .first,
+      q .second,
+      z .lines .1,
+      list-long l,
+      z .lines .0,
+      z .work .0,
+      bounded-all _ _ _ _ _ _ _ (rw (z .work .3) at (l .list-darts .ensures)),
+      q .plain,
+    )
+
+narrow-requires : tie.Need-narrow-requires
+narrow-requires c κs =
+    let l = listed (c .before .before .before .before .before .before) in
+    let q = start l .pre in
+    let z = pair-long _ _ _ _ _ _ _ _ _ (q .sizes) in
+    let e = list-long l in (
+      omega (arith, e, within-fits _ _ (q .size)),
+      z .lines .2 ∙ sym e,
+      lined-bounds l,
+    )
+
+remove-shared-requires : tie.Need-remove-shared-requires
+remove-shared-requires c κs =
+    let m = c .before .before .before .before .before .before in
+    let l = listed (plain m) in
+    let q = start l .pre in
+    let z = pair-long _ _ _ _ _ _ _ _ _ (q .sizes) in (
+      within-fits _ _ (q .size),
+      q .first,
+      q .second,
+      z .lines .1,
+      narrow-long m,
+      z .lines .2,
+      z .lines .3,
+      bounded-on _ _ _ _ _ _ _ (rw (list-long l) at (m .narrow .ensures (lined-bounds l))),
+      q .curves,
+      q .bare,
+    )
+
+add-n : tie.Need-add-n
+add-n c = omega (arith, within-limits _ _ (start (listed (plain (narrowed (c .before .before .before .before)))) .pre .size))
+
+add-n-2 : tie.Need-add-n-2
+add-n-2 c = omega (arith, within-limits _ _ (start (listed (plain (narrowed (c .before .before .before .before)))) .pre .size))
+
+mul-n : tie.Need-mul-n
+unfolding points
+mul-n c = omega (arith, points-fit _ _ (start (listed (plain (narrowed (c .before .before .before .before)))) .pre .size))
+
+cast-n : tie.Need-cast-n
+unfolding points
+cast-n c = omega (arith, points-fit _ _ (start (listed (plain (narrowed (c .before .before .before .before)))) .pre .size))
+
+slice-relend-prefix-settle : tie.Need-slice-relend-prefix-settle
+slice-relend-prefix-settle c = work-room (narrowed (c .before .before .before .before .before .before .before .before .before))
+
+slice-aggregate-settle : tie.Need-slice-aggregate-settle
+slice-aggregate-settle c =
+    let e = c .before .before .before .before .before .before .before .before .before .before in
+    sym (length-take-le _ _ (work-room (narrowed e)))
+
+settle-requires : tie.Need-settle-requires
+unfolding points
+settle-requires c κs =
+    let e = c .before .before .before .before .before .before .before .before .before .before in
+    let m = narrowed e in
+    let p = plain m in
+    let q = start (listed p) .pre in
+    let z = pair-long _ _ _ _ _ _ _ _ _ (q .sizes) in (
+      q .size,
+      p .remove-plain-shared .kept .1 .1 .1 .1 .1 .1 .1 .0 ∙ z .lines .0,
+      z .lines .1,
+      e .remove-shared .kept .1 .1 .1 .1 .1 .1 .1 .0 ∙ z .lines .2,
+      z .names,
+      length-take-le _ _ (work-room m),
+    )
+
+clear-requires : tie.Need-clear-requires
+clear-requires c κs = tt
+
+clear-requires-2 : tie.Need-clear-requires-2
+clear-requires-2 c κs = tt
+
+-- Each table keeps its length.
+same-length : tie.Need-same-length
+same-length c = plain (narrowed (curved (end c))) .remove-plain-shared .kept .1 .1 .1 .1 .1 .1 .1 .0
+
+same-length-2 : tie.Need-same-length-2
+same-length-2 c = end c .settle .kept .1 .1 .1 .1 .1 .0
+
+same-length-3 : tie.Need-same-length-3
+same-length-3 c = end c .settle .kept .1 .1 .1 .1 .1 .1 .0 ∙ curved (end c) .remove-shared .kept .1 .1 .1 .1 .1 .1 .1 .0
+
+same-length-4 : tie.Need-same-length-4
+same-length-4 c = end c .settle .kept .1 .1 .1 .1 .1 .1 .1 .0 ∙ curved (end c) .remove-shared .kept .1 .1 .1 .1 .1 .1 .1 .1 .0
+
+same-length-5 : tie.Need-same-length-5
+same-length-5 c = end c .settle .kept .1 .1 .1 .1 .1 .1 .1 .1 .0
+
+same-length-6 : tie.Need-same-length-6
+same-length-6 c =
+    backless (cleared c) .clear .kept .0 ∙ plain (narrowed (curved (end c))) .remove-plain-shared .kept .1 .1 .1 .1 .1 .1 .1 .1 .0
+
+-- the list too, whose front is lent for the tops
+abbrev points-of : tie.After-settle → ℕ
+points-of s =
+    let a = start (listed (plain (narrowed (curved s)))) .args in
+    (a .width + 1) * (a .height + 1)
+
+list-kept : (s : tie.After-settle)
+    → length (s .settle .last .1 .1 .1 .1 .1 .1 .1 .1 .1 .0 ++ drop (points-of s) (narrowed (curved s) .narrow .last .1 .1 .0))
+    ≡ length (start (listed (plain (narrowed (curved s)))) .args .list .now)
+list-kept s =
+    let m = narrowed (curved s) in
+    let top = s .settle .last .1 .1 .1 .1 .1 .1 .1 .1 .1 .0 in
+    length-front (m .narrow .last .1 .1 .0) top (points-of s) (s .settle .kept .1 .1 .1 .1 .1 .1 .1 .1 .1 .0)
+    ∙ m .narrow .kept .1 .1 .0 ∙ listed (plain m) .list-darts .kept .1 .1 .1 .0
+
+same-length-7 : tie.Need-same-length-7
+same-length-7 c = cleared c .clear2 .kept .0 ∙ list-kept (end c)
+
+returns : tie.Need-returns
+returns c =
+    let s = end c in
+    let e = curved s in
+    let p = plain (narrowed e) in
+    let a = start (listed p) in
+    let z = pair-long _ _ _ _ _ _ _ _ _ (a .pre .sizes) in (
+      all-steps _ _ _ _ _ _ _ _ _ (a .pre .first) (a .pre .second) (z .lines .1) (a .pre .sided) _ _ _ _ _ _
+          (p .remove-plain-shared .ensures) (e .remove-shared .ensures) (s .settle .ensures .0) (s .settle .ensures .1)
+          (s .settle .ensures .2),
+      pair-cleared _ _ _ _ _ _ (backless (cleared c) .clear .ensures) (cleared c .clear2 .ensures)
+          (p .remove-plain-shared .kept .1 .1 .1 .1 .1 .1 .1 .1 .0) (list-kept s),
+    )
+
+pub apply-spec : {M : Type 1} → statement M
+apply-spec =
+    tie.close
+    (tie.spec
+    list-darts-requires
+    remove-plain-shared-requires
+    narrow-requires
+    remove-shared-requires
+    add-n
+    add-n-2
+    mul-n
+    cast-n
+    slice-relend-prefix-settle
+    slice-aggregate-settle
+    settle-requires
+    clear-requires
+    clear-requires-2
+    same-length
+    same-length-2
+    same-length-3
+    same-length-4
+    same-length-5
+    same-length-6
+    same-length-7
+    returns)

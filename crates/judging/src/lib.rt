@@ -1,2 +1,0 @@
-// The cards of a deck, judged one by one.
-pub mod judge;

@@ -1,2 +1,0 @@
-// The level drawing: the tables of levels 0 to 3 of a sheet.
-pub mod draw;

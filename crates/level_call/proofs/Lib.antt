@@ -1,0 +1,3 @@
+pub mod Paper
+mod Refused
+pub mod Tables

@@ -1,0 +1,3 @@
+// Levels 2 and 3: the points that they keep, and the links along the lines of level 1 from each kept point to the next.
+pub mod keep;
+pub mod link;

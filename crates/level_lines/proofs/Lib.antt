@@ -1,0 +1,5 @@
+mod Beheld
+mod Drafting
+pub mod Paper
+pub mod Pointing
+pub mod Ruling

@@ -1,0 +1,3 @@
+pub mod Line
+pub mod Mask
+pub mod Side

@@ -1,0 +1,45 @@
+-- The tables of a level whose points are all kept, levels 0 and 1, from a table m of masks (the paper, "The four levels").
+--   lined m d       == the masks have the line of dart d
+--   onward w m d    == the dart that follows dart d: at its far point the first line that the masks have
+--   turning         == the table of turns
+--   nexts w h m     == the table of next; the mark where the masks have no line
+--   others w h m    == the table of other, likewise
+use mathlib.Core.Bool.{Bool, cond}
+use mathlib.Core.List.{List}
+use Prim.Native.Nat.{ℕ, _/_, _%_}
+use lib.ListN.{set}
+use Rattle.laws.specs.Table.{table}
+use Rattle.point_darts.specs.Dart.{mark, dart, point, direction, far, reversal}
+use Rattle.point_darts.specs.Point.{has}
+use Rattle.point_rules.specs.Turn.{turnOf}
+use Rattle.paper.specs.Level.{marked}
+use Rattle.paper.specs.Joining.{at}
+
+unfoldable pub lined : List ℕ → ℕ → Bool
+lined m d = has (at m (point d)) (direction d)
+
+unfoldable pub onward : ℕ → List ℕ → ℕ → ℕ
+onward w m d = dart (far w d) (turnOf (at m (far w d)) (direction d))
+
+unfoldable pub nexts : ℕ → ℕ → List ℕ → List ℕ
+nexts w h m = marked w h (lined m) (onward w m)
+
+unfoldable pub others : ℕ → ℕ → List ℕ → List ℕ
+others w h m = marked w h (lined m) (reversal w)
+
+-- the table of turns, at 4 times the mask plus the heading
+unfoldable pub turning : List ℕ
+turning = table 64 (λ i. turnOf (i / 4) (i % 4))
+
+-- Filling such a table point by point.
+--   fourAt t p a b c d == t with these entries at the four darts that leave point p
+--   pointed m f p t == t with the entries of f at the darts that leave point p and are lined in m, the mark at the others
+unfoldable pub fourAt : List ℕ → ℕ → ℕ → ℕ → ℕ → ℕ → List ℕ
+fourAt t p a b c d = set (set (set (set t (dart p 0) a) (dart p 1) b) (dart p 2) c) (dart p 3) d
+
+unfoldable pub entryOf : List ℕ → (ℕ → ℕ) → ℕ → ℕ
+entryOf m f d = cond (lined m d) (f d) mark
+
+unfoldable pub pointed : List ℕ → (ℕ → ℕ) → ℕ → List ℕ → List ℕ
+pointed m f p t =
+    fourAt t p (entryOf m f (dart p 0)) (entryOf m f (dart p 1)) (entryOf m f (dart p 2)) (entryOf m f (dart p 3))

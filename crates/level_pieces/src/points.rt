@@ -1,0 +1,61 @@
+use point_darts::dart;
+use table_forest::nodes;
+ghost use mathlib.Core.Path.{_≡_};
+ghost use mathlib.Core.Bool.{true, cond};
+ghost use Prim.Native.Nat.{suc, _+_, _-_, _<_, _≤_};
+ghost use lib.ListN.{length};
+ghost use Rattle.laws.specs.Least.{tie};
+ghost use Rattle.sheet_size.specs.Size.{widest, within};
+ghost use Rattle.point_darts.specs.Dart.{mark, points, slots, dart};
+ghost use Rattle.paper.specs.Level.{tops};
+ghost use Rattle.paper.specs.Joining.{on};
+ghost use Rattle.table_forest.specs.Forest.{Forest, Grown};
+
+// The point so many points before a point where the dart is on, else the point itself. No point lies before point 0.
+fn toward(side: &[u16], dart: u16, point: u16, back: u16) -> u16
+    requires { ⌜ dart < length (now side) ⌝ }
+    ensures { λ r. ⌜ r ≡ cond (on (now (side .entry)) dart) (point - back) point ⌝ }
+{
+    if side[dart as usize] == dart::MARK {
+        return point;
+    }
+    if point < back {
+        return 0;
+    }
+    point - back
+}
+
+// A point more among the pieces of the points before it.
+fn grow(width: u16, side: &[u16], top: &mut [u16], p: u16)
+    requires { ⌜
+        (width ≤ widest) × (dart p 3 < mark) × (dart p 3 < length (now side)) × (p < length (now top)) × Grown p (now top)
+        ⌝ }
+    ensures { λ _. ⌜
+        ((g : Grown p (now (top .entry))) →
+        Forest (suc p)
+        (tie p (cond (on (now (side .entry)) (dart p 3)) (p - (width + 1)) p)
+        (tie p (cond (on (now (side .entry)) (dart p 2)) (p - 1) p) (g .labels)))
+        (now (top .exit)))
+        ⌝ }
+{
+    let w = toward(side, 4 * p + 2, p, 1);
+    let n = toward(side, 4 * p + 3, p, width + 1);
+    nodes::plant(top, p, w, n);
+}
+
+// The top of the piece of each point: pieces are points that lines which are present join, by the sides of level 1.
+pub fn top_points(width: u16, height: u16, side: &[u16], top: &mut [u16])
+    requires { ⌜
+        (within width height ≡ true) × (length (now side) ≡ slots width height) ×
+        (length (now top) ≡ points width height)
+        ⌝ }
+    ensures { λ _. ⌜ now (top .exit) ≡ tops width height (on (now (side .entry))) ⌝ }
+{
+    let n = (width + 1) * (height + 1);
+    let mut p: u16 = 0;
+    while p < n {
+        grow(width, side, top, p);
+        p += 1;
+    }
+    nodes::flatten(top);
+}

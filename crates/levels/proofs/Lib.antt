@@ -1,2 +1,0 @@
-pub mod Paper
-pub mod Tables

@@ -1,2 +1,0 @@
-mod Drafting
-pub mod Ruling

@@ -1,2 +1,0 @@
-mod Naming
-pub mod Asking

@@ -1,3 +1,0 @@
-pub mod Paper
-pub mod Part
-pub mod Whole

@@ -1,0 +1,53 @@
+-- The way back along a line that stays on the sheet.
+use mathlib.Core.Path.{_≡_}
+use mathlib.Core.Bool.{true, _&&_}
+use Prim.Native.Nat.{ℕ, zero, suc, _+_, _/_, _%_, _≤_}
+use native.Mathlib.Nat.{mod-lt, div-add-mod', mul-le-mul}
+use native.Mathlib.Omega.{arith}
+use lib.Dec.{leb}
+use borrow.Author.Tests.{leb-true, le-leb, lt-ltb}
+use Rattle.sheet_size.specs.Size.{within}
+use Rattle.point_darts.specs.Dart.{mark, made, point, direction, beside, far, turned, reversal, stays, line, reversed}
+use Rattle.laws.proofs.Test.{and-left, and-right}
+use Rattle.sheet_size.proofs.Limit.{Within, within-limits}
+
+-- the points of a sheet are few
+low : (w h p : ℕ) → Within w h → p / (w + 1) ≤ h → p ≤ 5328
+low w h p s e =
+    omega (
+      arith,
+      div-add-mod' p (w + 1),
+      mod-lt p {m = w + 1} (omega arith),
+      mul-le-mul {n₁ = p / (w + 1)} {m₁ = w + 1} {n₂ = 72} {m₂ = 73} (omega arith) (omega arith),
+    )
+
+beside-le : (w p k : ℕ) → beside w p k ≤ p + (w + 1)
+unfolding beside
+beside-le w p zero = omega arith
+beside-le w p (suc zero) = omega arith
+beside-le w p (suc (suc zero)) = omega arith
+beside-le w p (suc (suc (suc k))) = omega arith
+
+line-row : (w h d : ℕ) → line w h d ≡ true → point d / (w + 1) ≤ h
+unfolding line
+line-row w h d e =
+    leb-true (point d / (w + 1)) h
+    (and-left (leb (point d / (w + 1)) h) (stays w h (point d % (w + 1)) (point d / (w + 1)) (direction d)) e)
+
+-- a size that is one, and a line on the sheet
+pub record OnSheet (w h d : ℕ) : Type 0 where
+  pub size : Within w h
+  pub near : point d ≤ 5328
+
+pub on-sheet : (w h d : ℕ) → within w h && line w h d ≡ true → OnSheet w h d
+on-sheet w h d e =
+    let s = within-limits w h (and-left (within w h) (line w h d) e) in
+    record { size = s; near = low w h (point d) s (line-row w h d (and-right (within w h) (line w h d) e)) }
+
+pub back : (w h d : ℕ) → within w h && line w h d ≡ true
+    → made (beside w (point d) (direction d)) ((direction d + 2) % 4) ≡ reversed w h d
+unfolding made reversed reversal far turned mark
+back w h d e =
+    let s = on-sheet w h d e in
+    let q : beside w (point d) (direction d) ≤ 16383 = omega (arith, beside-le w (point d) (direction d), s) in
+    simp (e, lt-ltb ((direction d + 2) % 4) 4 (omega arith), le-leb (beside w (point d) (direction d)) 16383 q)

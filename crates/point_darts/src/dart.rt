@@ -1,0 +1,111 @@
+ghost use mathlib.Core.Path.{_≡_};
+ghost use mathlib.Core.Bool.{_&&_};
+ghost use Prim.Native.Nat.{_-_, _+_, _<_};
+ghost use Rattle.sheet_size.specs.Size.{within};
+ghost use Rattle.point_darts.specs.Dart.{made, point, direction, beside, stays, line, reversed};
+
+// "None" in every table of links, sides or parents: never a dart, a point or a name.
+pub const MARK: u16 = 65535;
+
+// A unit line that leaves a point, by its number: 4 times the point, plus the direction.
+pub struct Dart {
+    pub number: u16,
+}
+
+// a less b, or 0 where b is larger.
+fn less(a: u16, b: u16) -> u16
+    ensures { λ r. ⌜ r ≡ a - b ⌝ }
+{
+    if a < b { 0 } else { a - b }
+}
+
+// The point one line away from a point.
+pub fn beside(point: u16, width: u16, direction: u16) -> u16
+    requires { ⌜ point + (width + 1) < 65536 ⌝ }
+    ensures { λ r. ⌜ r ≡ beside width point direction ⌝ }
+{
+    match direction {
+        Dart::EAST => point + 1,
+        Dart::SOUTH => point + (width + 1),
+        Dart::WEST => less(point, 1),
+        _ => less(point, width + 1),
+    }
+}
+
+// Whether the line in a direction from the point in column x and row y stays on the sheet.
+fn stays(width: u16, height: u16, x: u16, y: u16, direction: u16) -> bool
+    ensures { λ r. ⌜ r ≡ stays width height x y direction ⌝ }
+{
+    match direction {
+        Dart::EAST => x < width,
+        Dart::SOUTH => y < height,
+        Dart::WEST => 0 < x,
+        _ => 0 < y,
+    }
+}
+
+impl Dart {
+    pub const EAST: u16 = 0;
+
+    pub const SOUTH: u16 = 1;
+
+    pub const WEST: u16 = 2;
+
+    pub const NORTH: u16 = 3;
+
+    // The dart that leaves a point in a direction; the mark where the direction is none of the four or the number would
+    // not fit.
+    pub fn new(point: u16, direction: u16) -> Dart
+        ensures { λ r. ⌜ r .number ≡ made point direction ⌝ }
+    {
+        if 3 < direction {
+            return Dart { number: MARK };
+        }
+        if MARK / 4 < point {
+            return Dart { number: MARK };
+        }
+        Dart {
+            number: 4 * point + direction,
+        }
+    }
+
+    // The point that it leaves.
+    pub fn point(self) -> u16
+        ensures { λ r. ⌜ r ≡ point (self .number) ⌝ }
+    {
+        self.number / 4
+    }
+
+    // The direction in which it leaves.
+    pub fn direction(self) -> u16
+        ensures { λ r. ⌜ r ≡ direction (self .number) ⌝ }
+    {
+        self.number % 4
+    }
+
+    // Whether the size is one, and the line stays on a sheet of this size.
+    pub fn on_sheet(self, width: u16, height: u16) -> bool
+        ensures { λ r. ⌜ r ≡ (within width height && line width height (self .number)) ⌝ }
+    {
+        if !sheet_size::within(width, height) {
+            return false;
+        }
+        let point = self.point();
+        let row = width + 1;
+        if height < point / row {
+            return false;
+        }
+        stays(width, height, point % row, point / row, self.direction())
+    }
+
+    // The dart that leads back along the same line; the mark where the size is none or the line leaves the sheet.
+    pub fn reversal(self, width: u16, height: u16) -> Dart
+        ensures { λ r. ⌜ r .number ≡ reversed width height (self .number) ⌝ }
+    {
+        if !self.on_sheet(width, height) {
+            return Dart { number: MARK };
+        }
+        let direction = self.direction();
+        Dart::new(beside(self.point(), width, direction), (direction + 2) % 4)
+    }
+}

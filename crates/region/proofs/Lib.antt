@@ -1,3 +1,0 @@
-mod First
-mod Neighbour
-pub mod Room

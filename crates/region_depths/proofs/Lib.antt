@@ -1,0 +1,5 @@
+pub mod Children
+pub mod Climb
+mod Deepening
+pub mod Fall
+mod Tally

@@ -1,0 +1,2 @@
+pub mod Census
+pub mod Tree

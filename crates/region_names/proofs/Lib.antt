@@ -1,0 +1,4 @@
+mod First
+mod Neighbour
+pub mod Room
+pub mod Surround

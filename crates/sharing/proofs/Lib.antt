@@ -1,3 +1,0 @@
-pub mod Leading
-mod Sharing
-mod Treating

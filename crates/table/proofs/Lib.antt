@@ -1,6 +1,0 @@
-pub mod Entries
-pub mod Filled
-pub mod Half
-pub mod Same
-pub mod Cleared
-pub mod Front

@@ -1,0 +1,6 @@
+pub mod Cleared
+pub mod Entries
+pub mod Filled
+pub mod Front
+pub mod Half
+pub mod Same

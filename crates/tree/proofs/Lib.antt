@@ -1,3 +1,0 @@
-pub mod Climb
-pub mod Children
-pub mod Fall

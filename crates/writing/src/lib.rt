@@ -1,2 +1,0 @@
-// Writing the deck of a sheet.
-pub mod write;
