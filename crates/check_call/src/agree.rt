@@ -34,7 +34,7 @@ pub fn lines_agree(
     let cells = (width * height) as usize;
     labels::recover(width, height, side1, &mut c[..cells]);
     names::name_cells(width, height, &c[..cells], b, a);
-    draw::draw_lines(width, height, a, b, c, d);
+    parts::draw_lines(width, height, a, b, c, d);
     entry::both_same(next1, c, side1, d)
 }
 
@@ -64,10 +64,10 @@ pub fn curves_agree(
         (take (points width height) (now (b .entry)))
         ⌝ }
 {
-    draw::keep_points(width, height, side1, b, a, c);
-    draw::draw_curves(width, height, next1, c, d, b);
+    parts::keep_points(width, height, side1, b, a, c);
+    parts::draw_curves(width, height, next1, c, d, b);
     let names = (width * height + 1) as usize;
-    draw::draw_parents(width, height, side1, a, &mut c[..names]);
+    parts::draw_parents(width, height, side1, a, &mut c[..names]);
     if !entry::both_same(next3, d, other3, b) {
         return false;
     }
