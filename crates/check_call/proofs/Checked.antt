@@ -1,61 +1,61 @@
 -- The check of five tables, from what its parts answer.
 --   checked w h t ws == the outcome of the check of the tables t with the work tables ws
-use mathlib.Core.Path.{_≡_, ap, _∙_}
-use mathlib.Core.Bool.{Bool, true, false, cond, not}
-use mathlib.Core.List.{List, [], _∷_}
+--   told r ts ws    == the outcome that the answer r tells
+use mathlib.Core.Path.{_≡_, refl, sym, ap, _∙_}
+use mathlib.Core.Bool.{Bool, true}
+use mathlib.Core.List.{List, [], _∷_, map}
+use mathlib.Core.Logic.{_≢_}
 use Prim.Native.Nat.{ℕ}
-use native.Mathlib.Omega.{arith}
+use lib.Dec.{lit<}
 use lib.ListN.{length}
-use types.Run.{OneOf}
-use denote.Enum.Declared.{tagOf}
+use Rattle.laws.specs.First.{firstFailed, numbered}
+use Rattle.laws.proofs.First.{all-passed, failed-below, failed-from, passed-append, stopped-append}
 use Rattle.sheet_size.specs.Size.{within}
-use Rattle.paper.specs.Drawing.{Tables, judged}
-use Rattle.paper.specs.Refusal.{outcome, stated, cleared, five}
-use Rattle.table_lengths.specs.Given.{tables, works}
+use Rattle.paper.specs.Drawing.{Tables, isDrawing}
+use Rattle.paper.specs.Refusal.{stated, cleared, five, sizeTests, givenTests}
+use Rattle.answer.specs.declared.Answer.{Answer}
+use Rattle.answer.specs.Answer.{numberOf, told}
+use Rattle.answer.proofs.Outcome.{work-cleared, told-early, told-left}
 use Rattle.table_lengths.specs.Lengths.{lengths}
-use Rattle.table_lengths.proofs.Tested.{stated-lengths}
-use Rattle.drawing.specs.Answer.{left}
-use Rattle.check_answer.specs.declared.answer.Verdict.{Verdict}
-use Rattle.check_answer.specs.Answer.{answer, answered}
-use Rattle.check_answer.specs.Check.{refusal, checkRefusal, checked}
-use Rattle.check_answer.proofs.answer.Verdict.{the-type}
-use Rattle.check_answer.proofs.Refusing.{none-stops, tag-number}
+use Rattle.table_lengths.proofs.Tested.{by-dart, stated-lengths}
+use Rattle.check_answer.specs.Check.{checked}
+use Rattle.check_answer.proofs.Given.{size-numbered}
+
+found-numbered : (d : Bool) → numbered 5 6 ((d, 5) ∷ []) ≡ true
+unfolding numbered
+found-numbered d = refl
 
 -- Tables of which this is answered.
-module _ (w h : ℕ) (x s y o p a b c d : List ℕ) (v : Verdict)
-    (e : answer v
-    ≡ refusal w h
-    (lengths w h (length x) (length s) (length y) (length o) (length p) (length a) (length b) (length c) (length d))) where
-  abbrev given : Tables
-  given = tables x s y o p
+module _ (w h : ℕ) (t : Tables) (ws : List (List ℕ)) (r : Answer)
+    (e : numberOf r ≡ firstFailed (sizeTests w h (lengths w h (length (t .parent) ∷ []) (map length (by-dart w h t ws))))) where
+  abbrev tests : List (Bool × ℕ)
+  tests = sizeTests w h (stated w h t ws)
 
-  abbrev lent : List (List ℕ)
-  lent = works a b c d
+  abbrev last : List (Bool × ℕ)
+  last = (isDrawing w h t, 5) ∷ []
 
-  first : answer v ≡ refusal w h (stated w h given lent)
-  first = e ∙ ap (refusal w h) (stated-lengths w h x s y o p a b c d)
+  number : numberOf r ≡ firstFailed tests
+  number = e ∙ ap (λ k. firstFailed (sizeTests w h k)) (stated-lengths w h t ws)
 
-  pub check-refused : OneOf (1 ∷ 2 ∷ 3 ∷ []) (tagOf the-type v) → answered v (five given) lent ≡ checked w h given lent
-  unfolding answered checked checkRefusal refusal outcome
-  check-refused q = stop (within w h) (stated w h given lent) (judged w h given) v q first
-    where
-      stop : (a b c : Bool) (r : Verdict) → OneOf (1 ∷ 2 ∷ 3 ∷ []) (tagOf the-type r)
-          → answer r ≡ cond (not a) 1 (cond (not b) 4 0)
-          → left (answer r) [] (five given) lent
-          ≡ outcome (cond (not a) 1 (cond (not b) 4 (cond (not c) 5 0))) [] (five given) (five given) lent
-      stop false b c r q e = rw e
-      stop true false c r q e = rw e
-      stop true true c r q e = let (j, p) = tag-number r q in absurd (omega arith)
+  pub check-refused : numberOf r ≢ 0 → told r (five t) ws ≡ checked w h t ws
+  unfolding checked givenTests
+  check-refused n =
+      let s = stopped-append 1 5 (lit< tt) tests last (size-numbered w h (stated w h t ws)) (λ z. n (number ∙ z)) in
+      told-early r (firstFailed (givenTests w h t ws)) (number ∙ sym s) n
+      (rw s (failed-below 1 5 tests (lit< tt) (size-numbered w h (stated w h t ws)))) [] (five t) (five t) ws
 
-  module _ (f : v ≡ Verdict.Done) where
-    pub check-ready : (within w h ≡ true) × (stated w h given lent ≡ true)
-    check-ready = none-stops w h (stated w h given lent) (rw f at first)
+  module _ (z : numberOf r ≡ 0) where
+    pub check-ready : (within w h ≡ true) × (stated w h t ws ≡ true)
+    unfolding sizeTests
+    check-ready =
+        let p = all-passed 1 5 (lit< tt) tests (size-numbered w h (stated w h t ws)) (sym number ∙ z) in
+        (p .0, p .1 .0)
 
-    pub check-found : (vs : List (List ℕ)) → vs ≡ cleared lent → (r : Bool) → r ≡ judged w h given → (u : Verdict)
-        → answer u ≡ cond r 0 5 → answered u (five given) vs ≡ checked w h given lent
-    unfolding answered checked checkRefusal outcome
-    check-found vs g r i u k = rw (check-ready .0, check-ready .1, ← i, k) (told r)
-      where
-        told : (b : Bool) → left (cond b 0 5) [] (five given) vs ≡ outcome (cond (not b) 5 0) [] (five given) (five given) lent
-        told true = rw g
-        told false = rw g
+    pub check-found : (vs : List (List ℕ)) → vs ≡ cleared ws → (d : Bool) → d ≡ isDrawing w h t → (u : Answer)
+        → numberOf u ≡ firstFailed ((d, 5) ∷ []) → told u (five t) vs ≡ checked w h t ws
+    unfolding checked givenTests
+    check-found vs c d i u k =
+        let f : numberOf u ≡ firstFailed last = k ∙ ap (λ b. firstFailed ((b, 5) ∷ [])) i in
+        let s = passed-append 1 5 (lit< tt) tests last (size-numbered w h (stated w h t ws)) (sym number ∙ z) in
+        told-left u (firstFailed (givenTests w h t ws)) (f ∙ sym s) (five t) ws vs
+        (c ∙ sym (work-cleared (firstFailed (givenTests w h t ws)) ws (rw s (failed-from 5 6 last (found-numbered (isDrawing w h t))))))

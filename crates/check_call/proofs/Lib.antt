@@ -1,3 +1,3 @@
+pub mod Agreeing
 mod Checked
-pub mod Judged
 mod Told

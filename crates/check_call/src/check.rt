@@ -1,19 +1,18 @@
 // The check whether five tables are the drawing of some sheet.
 use crate::agree;
-use check_answer::answer;
-use check_answer::answer::Verdict;
+use answer::Answer;
 use table_entries::entry;
 ghost use mathlib.Core.Path.{_≡_};
 ghost use mathlib.Core.Bool.{true};
 ghost use Rattle.sheet_size.specs.Size.{within};
-ghost use Rattle.paper.specs.Drawing.{judged};
+ghost use Rattle.paper.specs.Drawing.{isDrawing};
 ghost use Rattle.paper.specs.Refusal.{stated, five};
+ghost use Rattle.answer.specs.Answer.{told};
 ghost use Rattle.table_lengths.specs.Given.{tables, works};
 ghost use Rattle.check_answer.specs.Check.{checked};
-ghost use Rattle.check_answer.specs.Answer.{answered};
 
 // Whether the five tables are the drawing of some sheet of this size.
-fn judge(
+fn is_drawing(
     width: u16,
     height: u16,
     next1: &[u16],
@@ -21,24 +20,24 @@ fn judge(
     next3: &[u16],
     other3: &[u16],
     parent: &[u16],
-    a: &mut [u16],
-    b: &mut [u16],
-    c: &mut [u16],
-    d: &mut [u16],
+    work_a: &mut [u16],
+    work_b: &mut [u16],
+    work_c: &mut [u16],
+    work_d: &mut [u16],
 ) -> bool
     requires { ⌜
         (within width height ≡ true) ×
         (stated width height (tables (now next1) (now side1) (now next3) (now other3) (now parent))
-        (works (now a) (now b) (now c) (now d)) ≡
+        (works (now «work_a») (now «work_b») (now «work_c») (now «work_d»)) ≡
         true)
         ⌝ }
     ensures { λ r. ⌜
         r ≡
-        judged width height
+        isDrawing width height
         (tables (now (next1 .entry)) (now (side1 .entry)) (now (next3 .entry)) (now (other3 .entry)) (now (parent .entry)))
         ⌝ }
 {
-    if !agree::lines_agree(width, height, next1, side1, a, b, c, d) {
+    if !agree::lines_agree(width, height, next1, side1, work_a, work_b, work_c, work_d) {
         return false;
     }
     agree::curves_agree(
@@ -49,10 +48,10 @@ fn judge(
         next3,
         other3,
         parent,
-        a,
-        b,
-        c,
-        d,
+        work_a,
+        work_b,
+        work_c,
+        work_d,
     )
 }
 
@@ -66,38 +65,40 @@ pub fn check(
     next3: &[u16],
     other3: &[u16],
     parent: &[u16],
-    a: &mut [u16],
-    b: &mut [u16],
-    c: &mut [u16],
-    d: &mut [u16],
-) -> Verdict
+    work_a: &mut [u16],
+    work_b: &mut [u16],
+    work_c: &mut [u16],
+    work_d: &mut [u16],
+) -> Answer
     ensures { λ r. ⌜
-        answered r
+        told r
         (five
         (tables (now (next1 .entry)) (now (side1 .entry)) (now (next3 .entry)) (now (other3 .entry)) (now (parent .entry))))
-        (works (now (a .exit)) (now (b .exit)) (now (c .exit)) (now (d .exit))) ≡
+        (works (now («work_a» .exit)) (now («work_b» .exit)) (now («work_c» .exit)) (now («work_d» .exit))) ≡
         checked width height
         (tables (now (next1 .entry)) (now (side1 .entry)) (now (next3 .entry)) (now (other3 .entry)) (now (parent .entry)))
-        (works (now (a .entry)) (now (b .entry)) (now (c .entry)) (now (d .entry)))
+        (works (now («work_a» .entry)) (now («work_b» .entry)) (now («work_c» .entry)) (now («work_d» .entry)))
         ⌝ }
 {
-    let refused = answer::refusal(
+    let answer = check_answer::refusal(
         width,
         height,
-        next1.len(),
-        side1.len(),
-        next3.len(),
-        other3.len(),
-        parent.len(),
-        a.len(),
-        b.len(),
-        c.len(),
-        d.len(),
+        &[parent.len()],
+        &[
+            next1.len(),
+            side1.len(),
+            next3.len(),
+            other3.len(),
+            work_a.len(),
+            work_b.len(),
+            work_c.len(),
+            work_d.len(),
+        ],
     );
-    let Verdict::Done = refused else {
-        return refused;
-    };
-    let drawing = judge(
+    if answer.number() != 0 {
+        return answer;
+    }
+    let drawing = is_drawing(
         width,
         height,
         next1,
@@ -105,11 +106,11 @@ pub fn check(
         next3,
         other3,
         parent,
-        a,
-        b,
-        c,
-        d,
+        work_a,
+        work_b,
+        work_c,
+        work_d,
     );
-    entry::clear_four(a, b, c, d);
-    answer::found(drawing)
+    entry::clear_four(work_a, work_b, work_c, work_d);
+    check_answer::found(drawing)
 }

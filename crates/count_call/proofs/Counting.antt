@@ -1,116 +1,98 @@
--- The outcomes of the counts, after a check of the drawing.
---   countRefusal w h t r ws == the refusal's number of a count of the name r, 0 for none
-use mathlib.Core.Path.{_≡_, refl, _∙_}
-use mathlib.Core.Bool.{Bool, true, false, cond, not, _&&_}
+-- Counting all names at once, into the tables ds and hs.
+--   tallied w h t ds hs ws == the outcome
+--   told r ts ws    == the outcome that the answer r tells
+use mathlib.Core.Path.{_≡_, refl, sym, ap, _∙_}
+use mathlib.Core.Bool.{Bool, true, false, _&&_, and-false}
 use mathlib.Core.List.{List, [], _∷_, _++_}
-use Prim.Native.Nat.{ℕ, suc, _+_, _*_}
-use native.Mathlib.Omega.{arith}
+use mathlib.Core.Logic.{_≢_}
+use Prim.Native.Nat.{ℕ, _+_, _*_}
+use lib.Dec.{lit<}
 use lib.ListN.{length}
-use types.Run.{OneOf}
-use denote.Enum.Declared.{tagOf}
+use Rattle.laws.specs.Every.{every}
+use Rattle.laws.specs.First.{firstFailed}
+use Rattle.laws.proofs.First.{all-passed, failed-below}
 use Rattle.sheet_size.specs.Size.{within}
 use Rattle.paper.specs.Enclosure.{depth, holes}
-use Rattle.paper.specs.Drawing.{Tables, judged}
-use Rattle.paper.specs.Refusal.{outcome, sized, stated, five, used, countRefusal}
-use Rattle.region_depths.specs.Tree.{known}
+use Rattle.paper.specs.Drawing.{Tables, isDrawing}
+use Rattle.paper.specs.Refusal.{sized, stated, cleared, five, sizeTests, givenTests}
+use Rattle.answer.specs.declared.Answer.{Answer}
+use Rattle.answer.specs.Answer.{numberOf, told}
+use Rattle.answer.proofs.Outcome.{work-left, told-early, told-refused, told-done}
+use Rattle.table_lengths.specs.Lengths.{allAre, lengths}
+use Rattle.table_lengths.proofs.Tested.{Each, each-name, all-sized}
 use Rattle.region_depths.specs.Census.{counts}
-use Rattle.table_lengths.specs.Lengths.{named}
-use Rattle.table_lengths.proofs.Tested.{and-end, all-named, sized-named}
-use Rattle.check_answer.specs.declared.answer.Verdict.{Verdict}
-use Rattle.check_answer.specs.Answer.{answer, answered}
-use Rattle.check_answer.specs.Check.{refusal, checkRefusal, checked}
-use Rattle.check_answer.proofs.answer.Verdict.{the-type}
-use Rattle.check_answer.proofs.Refusing.{again, none-stops, refused-stops, tag-number, number, work, accepted-on, accepted-work}
-use Rattle.count_answer.specs.declared.answer.Count.{Count}
-use Rattle.count_answer.specs.Answer.{values, counted, refused}
+use Rattle.check_answer.specs.Check.{checked}
+use Rattle.check_answer.proofs.Given.{size-numbered, given-number, given-work, accepted-work}
 use Rattle.count_call.specs.Tally.{tallyRefusal, tallied}
 
--- A count of the name r after it.
-module _ (w h : ℕ) (t : Tables) (r : ℕ) (ws vs : List (List ℕ)) where
-  abbrev rest : ℕ
-  rest = cond (not (known (t .parent) r)) 8 0
-
-  -- the count's answer tells what the verdict tells
-  same-answer : (v : Verdict) (j : ℕ) → answer v ≡ suc j → counted (refused v) (five t) vs ≡ answered v (five t) vs
-  unfolding answered values counted refused
-  same-answer Verdict.Done j p = absurd (omega arith)
-  same-answer Verdict.Size j p = refl
-  same-answer Verdict.Tables j p = refl
-  same-answer Verdict.Drawing j p = refl
-
-  pub count-refused : (v : Verdict) (x : ℕ) → OneOf (1 ∷ 2 ∷ 3 ∷ []) (tagOf the-type v)
-      → answered v (five t) vs ≡ checked w h t ws
-      → counted (refused v) (five t) vs ≡ outcome (countRefusal w h t r ws) (x ∷ []) (five t) (five t) ws
-  unfolding countRefusal used known
-  count-refused v x p e =
-      let (j, q) = tag-number v p in
-      same-answer v j q ∙ refused-stops w h t ws vs v rest (x ∷ []) (five t) p e
-
-  -- it accepts
-  module _ (e : answered Verdict.Done (five t) vs ≡ checked w h t ws) where
-    goes-on : countRefusal w h t r ws ≡ rest
-    unfolding countRefusal used known
-    goes-on = accepted-on w h t ws vs e rest
-
-    pub count-name : (x : ℕ) → known (t .parent) r ≡ false
-        → counted Count.Name (five t) vs ≡ outcome (countRefusal w h t r ws) (x ∷ []) (five t) (five t) ws
-    unfolding values counted outcome
-    count-name x k = rw (goes-on, k, accepted-work w h t ws vs e)
-
-    pub count-is : (x : ℕ) → known (t .parent) r ≡ true
-        → counted (Count.Is x) (five t) vs ≡ outcome (countRefusal w h t r ws) (x ∷ []) (five t) (five t) ws
-    unfolding values counted outcome
-    count-is x k = rw (goes-on, k, accepted-work w h t ws vs e)
-
-and-false : (b : Bool) → (b && false) ≡ false
-and-false true = refl
-and-false false = refl
+and-yes : (b : Bool) → (b && true) ≡ b
+and-yes true = refl
+and-yes false = refl
 
 -- Two lengths of which it is answered that nothing is refused.
-module _ (w h m n : ℕ) (f : Verdict) (e : answer f ≡ refusal w h (named w h m n)) (g : f ≡ Verdict.Done) where
-  fit : named w h m n ≡ true
-  fit = none-stops w h (named w h m n) (rw g at e) .1
+pub tally-long : (w h m n : ℕ) (f : Answer) → numberOf f ≡ firstFailed (sizeTests w h (lengths w h (m ∷ n ∷ []) []))
+    → numberOf f ≡ 0 → Each (w * h + 1) (m ∷ n ∷ [])
+unfolding sizeTests
+tally-long w h m n f e z =
+    let k : Bool = lengths w h (m ∷ n ∷ []) [] in
+    each-name w h (m ∷ n ∷ []) [] (all-passed 1 5 (lit< tt) (sizeTests w h k) (size-numbered w h k) (sym e ∙ z) .1 .0)
 
-  pub tally-long : (m ≡ w * h + 1) × (n ≡ w * h + 1)
-  tally-long = all-named w h m n fit
+-- the tests of the lengths alone stop where all tests do
+stopped : (a b c d : Bool) → firstFailed ((a, 1) ∷ (b, 4) ∷ []) ≢ 0
+    → firstFailed ((a, 1) ∷ (b, 4) ∷ []) ≡ firstFailed ((a, 1) ∷ (c && b, 4) ∷ (d, 5) ∷ [])
+unfolding firstFailed
+stopped false b c d n = refl
+stopped true false c d n = rw (and-false c)
+stopped true true c d n = absurd (n refl)
 
--- Counting all names at once, into the tables ds and hs, of whose lengths this is answered.
-module _ (w h : ℕ) (t : Tables) (ds hs : List ℕ) (ws : List (List ℕ)) (f : Verdict)
-    (e : answer f ≡ refusal w h (named w h (length ds) (length hs))) where
+-- Tables of whose lengths this is answered.
+module _ (w h : ℕ) (t : Tables) (ds hs : List ℕ) (ws : List (List ℕ)) (f : Answer)
+    (e : numberOf f ≡ firstFailed (sizeTests w h (lengths w h (length ds ∷ length hs ∷ []) []))) where
   abbrev kept : List (List ℕ)
   kept = five t ++ ds ∷ hs ∷ []
 
-  pub tally-stopped : OneOf (1 ∷ 2 ∷ 3 ∷ []) (tagOf the-type f) → answered f kept ws ≡ tallied w h t ds hs ws
-  unfolding answered tallied tallyRefusal refusal outcome named sized
-  tally-stopped q = stop (within w h) (named w h (length ds) (length hs)) (stated w h t ws) (judged w h t) f q e
-    where
-      stop : (a b c d : Bool) (r : Verdict) → OneOf (1 ∷ 2 ∷ 3 ∷ []) (tagOf the-type r)
-          → answer r ≡ cond (not a) 1 (cond (not b) 4 0)
-          → answered r kept ws
-          ≡ outcome (cond (not a) 1 (cond (not (c && b)) 4 (cond (not d) 5 0))) [] kept
-          (five t ++ counts depth (t .parent) ∷ counts holes (t .parent) ∷ [])
-          ws
-      stop false b c d r q e = rw e
-      stop true false c d r q e = rw (e, and-false c)
-      stop true true c d r q e = let (j, p) = tag-number r q in absurd (omega arith)
+  abbrev filled : List (List ℕ)
+  filled = five t ++ counts depth (t .parent) ∷ counts holes (t .parent) ∷ []
+
+  abbrev long : Bool
+  long = sized (w * h + 1) (ds ∷ hs ∷ [])
+
+  same-long : lengths w h (length ds ∷ length hs ∷ []) [] ≡ long
+  unfolding lengths allAre every
+  same-long = and-yes _ ∙ all-sized (w * h + 1) (ds ∷ hs ∷ [])
+
+  number : numberOf f ≡ firstFailed (sizeTests w h long)
+  number = e ∙ ap (λ k. firstFailed (sizeTests w h k)) same-long
+
+  pub tally-stopped : numberOf f ≢ 0 → told f kept ws ≡ tallied w h t ds hs ws
+  unfolding tallied tallyRefusal sizeTests
+  tally-stopped n =
+      let s = stopped (within w h) long (stated w h t ws) (isDrawing w h t) (λ z. n (number ∙ z)) in
+      told-early f (tallyRefusal w h t ds hs ws) (number ∙ s) n
+      (rw (← s) (failed-below 1 5 (sizeTests w h long) (lit< tt) (size-numbered w h long))) [] kept filled ws
 
   -- nothing is refused of them
-  module _ (g : f ≡ Verdict.Done) where
-    same-tests : tallyRefusal w h t ds hs ws ≡ checkRefusal w h t ws
-    unfolding tallyRefusal checkRefusal
-    same-tests = rw (← sized-named w h ds hs, fit w h (length ds) (length hs) f e g, ← and-end (stated w h t ws))
+  module _ (z : numberOf f ≡ 0) where
+    same-tests : tallyRefusal w h t ds hs ws ≡ firstFailed (givenTests w h t ws)
+    unfolding tallyRefusal givenTests sizeTests
+    same-tests =
+        let l = all-passed 1 5 (lit< tt) (sizeTests w h long) (size-numbered w h long) (sym number ∙ z) .1 .0 in
+        rw (l, and-yes (stated w h t ws))
 
-    module _ (vs : List (List ℕ)) where
-      pub tally-refused : (v : Verdict) → OneOf (1 ∷ 2 ∷ 3 ∷ []) (tagOf the-type v)
-          → answered v (five t) vs ≡ checked w h t ws → answered v kept vs ≡ tallied w h t ds hs ws
-      unfolding answered tallied
-      tally-refused v p e =
-          rw same-tests
-          (again (checkRefusal w h t ws) (answer v) kept _ vs ws (number w h t ws vs v e) (tag-number v p) (work w h t ws vs v e))
+    -- after a check that answered v
+    module _ (v : Answer) (vs : List (List ℕ)) (c : told v (five t) vs ≡ checked w h t ws) where
+      same-number : numberOf v ≡ tallyRefusal w h t ds hs ws
+      same-number = given-number w h t ws v vs c ∙ sym same-tests
 
-      pub tally-done : answered Verdict.Done (five t) vs ≡ checked w h t ws → (ds′ hs′ : List ℕ)
-          → ds′ ≡ counts depth (t .parent) → hs′ ≡ counts holes (t .parent)
-          → answered Verdict.Done (five t ++ ds′ ∷ hs′ ∷ []) vs ≡ tallied w h t ds hs ws
-      unfolding answered tallied outcome
-      tally-done e ds′ hs′ p q =
-          rw (same-tests, ← number w h t ws vs Verdict.Done e, p, q, accepted-work w h t ws vs e)
+      pub tally-refused : numberOf v ≢ 0 → told v kept vs ≡ tallied w h t ds hs ws
+      unfolding tallied
+      tally-refused n =
+          told-refused v (tallyRefusal w h t ds hs ws) same-number n [] kept filled ws vs
+          (given-work w h t ws v vs c ∙ ap (λ k. work-left k ws) (sym same-tests))
+
+      pub tally-done : numberOf v ≡ 0 → (ds′ hs′ : List ℕ) → ds′ ≡ counts depth (t .parent) → hs′ ≡ counts holes (t .parent)
+          → told Answer.Done (five t ++ ds′ ∷ hs′ ∷ []) vs ≡ tallied w h t ds hs ws
+      unfolding tallied numberOf
+      tally-done d ds′ hs′ p q =
+          told-done Answer.Done (tallyRefusal w h t ds hs ws) (sym d ∙ same-number) refl kept filled ws (five t ++ ds′ ∷ hs′ ∷ []) vs
+          (rw (p, q)) (accepted-work w h t ws v vs c d)

@@ -1,3 +1,3 @@
-pub mod Accepted
-pub mod Counting
+mod Accepted
+mod Counting
 mod Told

@@ -1,46 +1,49 @@
--- What a count answers after a verdict tells the outcome of the count.
---   after v k x     == what a count answers after the verdict v, of a name that k says is known, with the value x
---   Countable v p   == where the verdict v accepts, names may be climbed and counted in the parents p
-use mathlib.Core.Path.{_≡_, refl}
+-- What a count answers after a check tells the outcome of the count.
+--   after v k x     == what a count answers after a check that answered v, of a name that k says is known, with the value x
+use mathlib.Core.Path.{_≡_, refl, sym, ap, _∙_}
 use mathlib.Core.Bool.{Bool, true, false}
 use mathlib.Core.List.{List, [], _∷_}
-use mathlib.Core.Logic.{inl, inr}
 use Prim.Native.Nat.{ℕ}
 use native.Mathlib.Omega.{arith}
+use lib.Dec.{eqb, lit≤}
+use borrow.Author.Tests.{eqb-true, eqb-false}
+use Rattle.laws.proofs.First.{none-left, failed-here, failed-later}
 use Rattle.paper.specs.Drawing.{Tables}
-use Rattle.paper.specs.Refusal.{outcome, five, countRefusal}
+use Rattle.paper.specs.Refusal.{outcome, five, used, countRefusal}
+use Rattle.answer.specs.declared.Answer.{Answer}
+use Rattle.answer.specs.Answer.{numberOf, told}
+use Rattle.answer.proofs.Outcome.{work-cleared, outcome-refused, outcome-done}
 use Rattle.region_depths.specs.Tree.{known}
-use Rattle.check_answer.specs.declared.answer.Verdict.{Verdict}
-use Rattle.check_answer.specs.Answer.{answered}
 use Rattle.check_answer.specs.Check.{checked}
-use Rattle.count_answer.specs.declared.answer.Count.{Count}
-use Rattle.count_answer.specs.Answer.{counted, refused, after, Countable}
-use Rattle.count_call.proofs.Accepted.{accepted-falls, accepted-long, accepted-fits}
-use Rattle.count_call.proofs.Counting.{count-refused, count-name, count-is}
+use Rattle.check_answer.proofs.Given.{accepted-work, accepted-on, refused-stops}
+use Rattle.count_answer.specs.declared.Count.{Count}
+use Rattle.count_answer.specs.Count.{countNumber, values, counted, after}
 
-module _ (w h : ℕ) (t : Tables) (r : ℕ) (ws vs : List (List ℕ)) (x : ℕ) where
-  told-done : answered Verdict.Done (five t) vs ≡ checked w h t ws → (k : Bool) → known (t .parent) r ≡ k
-      → counted (after Verdict.Done k x) (five t) vs ≡ outcome (countRefusal w h t r ws) (x ∷ []) (five t) (five t) ws
-  unfolding after
-  told-done e true p = count-is w h t r ws vs e x p
-  told-done e false p = count-name w h t r ws vs e x p
+module _ (w h : ℕ) (t : Tables) (r : ℕ) (ws : List (List ℕ)) (v : Answer) (vs : List (List ℕ)) (x : ℕ)
+    (e : told v (five t) vs ≡ checked w h t ws) where
+  abbrev last : List (Bool × ℕ)
+  last = (known (t .parent) r, 8) ∷ []
 
-  told : (v : Verdict) → answered v (five t) vs ≡ checked w h t ws
+  -- the check accepts: the name decides
+  by-name : numberOf v ≡ 0 → (k : Bool) → known (t .parent) r ≡ k
+      → counted (after v k x) (five t) vs ≡ outcome (countRefusal w h t r ws) (x ∷ []) (five t) (five t) ws
+  unfolding after counted countNumber values numberOf countRefusal used known
+  by-name z true p =
+      rw z
+      (outcome-done (countRefusal w h t r ws) (x ∷ []) (five t) (five t) ws
+      (accepted-on w h t ws v vs e z last ∙ failed-later _ 8 [] p ∙ none-left) (five t) vs refl (accepted-work w h t ws v vs e z))
+  by-name z false p =
+      let n : countRefusal w h t r ws ≡ 8 = accepted-on w h t ws v vs e z last ∙ failed-here _ 8 [] p in
+      rw (z, n)
+      (outcome-refused 8 (x ∷ []) (five t) (five t) ws (λ q. omega (arith, q)) vs
+      (accepted-work w h t ws v vs e z ∙ sym (work-cleared 8 ws (λ q. omega arith))))
+
+  by-check : (b : Bool) → eqb (numberOf v) 0 ≡ b
       → counted (after v (known (t .parent) r) x) (five t) vs ≡ outcome (countRefusal w h t r ws) (x ∷ []) (five t) (five t) ws
-  unfolding after refused
-  told Verdict.Done e = told-done e (known (t .parent) r) refl
-  told Verdict.Size e = count-refused w h t r ws vs Verdict.Size x (inl refl) e
-  told Verdict.Tables e = count-refused w h t r ws vs Verdict.Tables x (inr (inl refl)) e
-  told Verdict.Drawing e = count-refused w h t r ws vs Verdict.Drawing x (inr (inr refl)) e
+  unfolding after counted countNumber values told countRefusal used known
+  by-check true p = by-name (eqb-true (numberOf v) 0 p) (known (t .parent) r) refl
+  by-check false p = rw p (refused-stops w h t ws v vs e (eqb-false (numberOf v) 0 p) last (x ∷ []) (five t))
 
-  pub count-told : (v : Verdict) (c : Count) → c ≡ after v (known (t .parent) r) x → answered v (five t) vs ≡ checked w h t ws
+  pub count-told : (c : Count) → c ≡ after v (known (t .parent) r) x
       → counted c (five t) vs ≡ outcome (countRefusal w h t r ws) (x ∷ []) (five t) (five t) ws
-  count-told v c p e = rw p (told v e)
-
-pub countable : (w h : ℕ) (t : Tables) (ws vs : List (List ℕ)) (v : Verdict) → answered v (five t) vs ≡ checked w h t ws
-    → Countable v (t .parent)
-countable w h t ws vs v e = record {
-  falls = λ d. accepted-falls w h t ws vs v d e;
-  some = λ d. omega (arith, accepted-long w h t ws vs v d e);
-  fits = λ d. accepted-fits w h t ws vs v d e;
-}
+  count-told c p = rw p (by-check (eqb (numberOf v) 0) refl)

@@ -1,17 +1,14 @@
-use check_answer::answer::Verdict;
+use answer::Answer;
 use check_call::check;
-use count_answer::answer;
-use count_answer::answer::Count;
+use count_answer::Count;
 use region_depths::census;
 ghost use mathlib.Core.Path.{_≡_};
 ghost use mathlib.Core.List.{[], _∷_, _++_};
 ghost use Rattle.paper.specs.Refusal.{five, deepened, holed};
+ghost use Rattle.answer.specs.Answer.{told};
 ghost use Rattle.table_lengths.specs.Given.{tables, works};
-ghost use Rattle.table_lengths.specs.Lengths.{named};
 ghost use Rattle.count_call.specs.Tally.{tallied};
-ghost use Rattle.check_answer.specs.Answer.{answer, answered};
-ghost use Rattle.check_answer.specs.Check.{refusal};
-ghost use Rattle.count_answer.specs.Answer.{counted};
+ghost use Rattle.count_answer.specs.Count.{counted};
 
 // The depth of a region, or of the outside for the name 0: refusals 1, 4, 5 and 8. The tables stay as they are; the work
 // tables are left at 1 and 4, else cleared.
@@ -24,23 +21,23 @@ pub fn depth(
     other3: &[u16],
     parent: &[u16],
     name: u16,
-    a: &mut [u16],
-    b: &mut [u16],
-    c: &mut [u16],
-    d: &mut [u16],
+    work_a: &mut [u16],
+    work_b: &mut [u16],
+    work_c: &mut [u16],
+    work_d: &mut [u16],
 ) -> Count
     ensures { λ r. ⌜
         counted r
         (five
         (tables (now (next1 .entry)) (now (side1 .entry)) (now (next3 .entry)) (now (other3 .entry)) (now (parent .entry))))
-        (works (now (a .exit)) (now (b .exit)) (now (c .exit)) (now (d .exit))) ≡
+        (works (now («work_a» .exit)) (now («work_b» .exit)) (now («work_c» .exit)) (now («work_d» .exit))) ≡
         deepened width height
         (tables (now (next1 .entry)) (now (side1 .entry)) (now (next3 .entry)) (now (other3 .entry)) (now (parent .entry)))
         name
-        (works (now (a .entry)) (now (b .entry)) (now (c .entry)) (now (d .entry)))
+        (works (now («work_a» .entry)) (now («work_b» .entry)) (now («work_c» .entry)) (now («work_d» .entry)))
         ⌝ }
 {
-    let verdict = check::check(
+    let answer = check::check(
         width,
         height,
         next1,
@@ -48,12 +45,12 @@ pub fn depth(
         next3,
         other3,
         parent,
-        a,
-        b,
-        c,
-        d,
+        work_a,
+        work_b,
+        work_c,
+        work_d,
     );
-    answer::depth_after(verdict, parent, name)
+    count_answer::depth_after(answer, parent, name)
 }
 
 // The hole count of a region, or of the outside for the name 0: refusals 1, 4, 5 and 8. The tables stay as they are; the
@@ -67,23 +64,23 @@ pub fn holes(
     other3: &[u16],
     parent: &[u16],
     name: u16,
-    a: &mut [u16],
-    b: &mut [u16],
-    c: &mut [u16],
-    d: &mut [u16],
+    work_a: &mut [u16],
+    work_b: &mut [u16],
+    work_c: &mut [u16],
+    work_d: &mut [u16],
 ) -> Count
     ensures { λ r. ⌜
         counted r
         (five
         (tables (now (next1 .entry)) (now (side1 .entry)) (now (next3 .entry)) (now (other3 .entry)) (now (parent .entry))))
-        (works (now (a .exit)) (now (b .exit)) (now (c .exit)) (now (d .exit))) ≡
+        (works (now («work_a» .exit)) (now («work_b» .exit)) (now («work_c» .exit)) (now («work_d» .exit))) ≡
         holed width height
         (tables (now (next1 .entry)) (now (side1 .entry)) (now (next3 .entry)) (now (other3 .entry)) (now (parent .entry)))
         name
-        (works (now (a .entry)) (now (b .entry)) (now (c .entry)) (now (d .entry)))
+        (works (now («work_a» .entry)) (now («work_b» .entry)) (now («work_c» .entry)) (now («work_d» .entry)))
         ⌝ }
 {
-    let verdict = check::check(
+    let answer = check::check(
         width,
         height,
         next1,
@@ -91,25 +88,12 @@ pub fn holes(
         next3,
         other3,
         parent,
-        a,
-        b,
-        c,
-        d,
+        work_a,
+        work_b,
+        work_c,
+        work_d,
     );
-    answer::holes_after(verdict, parent, name)
-}
-
-// What counting every name answers to a size and the lengths of its two tables.
-fn refusal(width: u16, height: u16, depths: usize, tally: usize) -> Verdict
-    ensures { λ r. ⌜ answer r ≡ refusal width height (named width height depths tally) ⌝ }
-{
-    if !sheet_size::within(width, height) {
-        return Verdict::Size;
-    }
-    if !table_lengths::named(width, height, depths, tally) {
-        return Verdict::Tables;
-    }
-    Verdict::Done
+    count_answer::holes_after(answer, parent, name)
 }
 
 // Depth and hole count of every name at once, of the outside and of each name in use; the mark for any other name. The
@@ -125,29 +109,30 @@ pub fn counts(
     parent: &[u16],
     depths: &mut [u16],
     tally: &mut [u16],
-    a: &mut [u16],
-    b: &mut [u16],
-    c: &mut [u16],
-    d: &mut [u16],
-) -> Verdict
+    work_a: &mut [u16],
+    work_b: &mut [u16],
+    work_c: &mut [u16],
+    work_d: &mut [u16],
+) -> Answer
     ensures { λ r. ⌜
-        answered r
+        told r
         (five
         (tables (now (next1 .entry)) (now (side1 .entry)) (now (next3 .entry)) (now (other3 .entry)) (now (parent .entry))) ++
         now (depths .exit) ∷ now (tally .exit) ∷ [])
-        (works (now (a .exit)) (now (b .exit)) (now (c .exit)) (now (d .exit))) ≡
+        (works (now («work_a» .exit)) (now («work_b» .exit)) (now («work_c» .exit)) (now («work_d» .exit))) ≡
         tallied width height
         (tables (now (next1 .entry)) (now (side1 .entry)) (now (next3 .entry)) (now (other3 .entry)) (now (parent .entry)))
         (now (depths .entry))
         (now (tally .entry))
-        (works (now (a .entry)) (now (b .entry)) (now (c .entry)) (now (d .entry)))
+        (works (now («work_a» .entry)) (now («work_b» .entry)) (now («work_c» .entry)) (now («work_d» .entry)))
         ⌝ }
 {
-    let first = refusal(width, height, depths.len(), tally.len());
-    let Verdict::Done = first else {
-        return first;
-    };
-    let verdict = check::check(
+    let by_dart: [usize; 0] = [];
+    let sized = check_answer::refusal(width, height, &[depths.len(), tally.len()], &by_dart);
+    if sized.number() != 0 {
+        return sized;
+    }
+    let answer = check::check(
         width,
         height,
         next1,
@@ -155,14 +140,14 @@ pub fn counts(
         next3,
         other3,
         parent,
-        a,
-        b,
-        c,
-        d,
+        work_a,
+        work_b,
+        work_c,
+        work_d,
     );
-    let Verdict::Done = verdict else {
-        return verdict;
-    };
+    if answer.number() != 0 {
+        return answer;
+    }
     census::count_all(parent, depths, tally);
-    Verdict::Done
+    Answer::Done
 }

@@ -34,7 +34,7 @@ pub record Curved (w h : ℕ) (x k y o : List ℕ) : Type 0 where
   pub next : y ≡ alongNext w h x k
   pub other : o ≡ alongOther w h x k
 
--- The judge, part by part: labels are recovered from the sides of level 1, and all is drawn again from them.
+-- The test of refusal 5, part by part: labels are recovered from the sides of level 1, and all is drawn again from them.
 --   roundOf w h s   == the names of these labels, with the outside round them
 --   masksOf w h s   == the masks of the lines of level 1 between them
 --   linesAgree ..   == next and side of level 1 are those drawn again

@@ -18,14 +18,14 @@ use Rattle.paper.specs.Drawing.{Tables, Drawn}
 use Rattle.paper.specs.Joining.{joined}
 use Rattle.paper.specs.Refusal.{outcome, sized, stated, cleared, five, used, adjoin, joinRefusal, merged}
 use Rattle.paper.specs.Sitting.{Joinable}
-use Rattle.paper_laws.proofs.Judge.{judged-drawn}
+use Rattle.paper_laws.proofs.IsDrawing.{is-drawing-drawn}
 use Rattle.check_answer.specs.declared.answer.Verdict.{Verdict}
 use Rattle.drawing.specs.Answer.{left}
 use Rattle.check_answer.specs.Answer.{answer, answered}
 use Rattle.check_answer.specs.Check.{checked}
 use Rattle.check_answer.proofs.Refusing.{accepted-done}
 use Rattle.check_answer.proofs.Refusing.{tag-number, refused-stops}
-use Rattle.check_answer.proofs.Refusing.{accepted-within, accepted-stated, accepted-judged, accepted-work, accepted-on}
+use Rattle.check_answer.proofs.Refusing.{accepted-within, accepted-stated, accepted-is-drawing, accepted-work, accepted-on}
 use Rattle.join_answer.specs.declared.answer.Joined.{Joined}
 use Rattle.join_answer.specs.Answer.{number, refused, named, asked}
 use Rattle.join_answer.proofs.Asking.{Other, other-not-done, zero-done, done-asked}
@@ -122,7 +122,7 @@ module _ (w h : ℕ) (t : Tables) (a b : ℕ) (ws vs : List (List ℕ)) where
     size = accepted-within w h t ws vs accepts
 
     drawn : Drawn w h t
-    drawn = judged-drawn w h t (accepted-judged w h t ws vs accepts)
+    drawn = is-drawing-drawn w h t (accepted-is-drawing w h t ws vs accepts)
 
     work : vs ≡ cleared ws
     work = accepted-work w h t ws vs accepts

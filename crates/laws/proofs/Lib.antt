@@ -4,7 +4,9 @@ pub mod Chart
 pub mod Column
 pub mod Count
 pub mod Curve
+pub mod Every
 pub mod Exchange
+pub mod First
 pub mod Least
 pub mod Less
 pub mod Level

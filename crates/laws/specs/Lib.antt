@@ -1,3 +1,5 @@
+pub mod Every
+pub mod First
 pub mod Least
 pub mod Run
 pub mod Table

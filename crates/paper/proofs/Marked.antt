@@ -13,6 +13,7 @@ use mathlib.Core.List.{List, [], _∷_, _++_, map}
 use Prim.Native.Nat.{ℕ, zero, suc}
 use lib.Dec.{eqb, ltb}
 use Rattle.laws.specs.Table.{listed, table, number, count, some}
+use Rattle.laws.specs.First.{firstFailed}
 use Rattle.laws.specs.Least.{lower, tie, ties, least}
 use Rattle.laws.specs.Run.{run}
 use Rattle.sheet_size.specs.Size.{widest, within}
@@ -23,11 +24,12 @@ use Rattle.paper.specs.Name.{label, west, north, names, named, cells}
 use Rattle.paper.specs.Level.{side, border, mask, next, plain, last, along, big, bent, tops, anchor, kept2, kept3, among}
 use Rattle.paper.specs.Level.{level, marked}
 use Rattle.paper.specs.Enclosure.{first, parent, parents, above, depth, holes}
-use Rattle.paper.specs.Drawing.{Tables, drawn, drawing, fresh, recover, recovered, alike, same, judged}
+use Rattle.paper.specs.Drawing.{Tables, drawn, drawing, fresh, recover, recovered, alike, same, isDrawing}
 use Rattle.paper.specs.Joining.{Links, at, on, between, shared, chase, removed, rest1, rest3, low, high, spliced}
 use Rattle.paper.specs.Joining.{smooth, smooths, smoothed, moved, close, closes, closed, joined}
-use Rattle.paper.specs.Refusal.{sized, cleared, outcome, levelRefusal, levelTables, levelled, five, stated, drawRefusal}
-use Rattle.paper.specs.Refusal.{mapped, used, adjoin, joinRefusal, merged, countRefusal, deepened, holed}
+use Rattle.paper.specs.Refusal.{sized, cleared, outcome, levelTests, levelRefusal, levelTables, levelled, five, stated}
+use Rattle.paper.specs.Refusal.{drawTests, drawRefusal, mapped, sizeTests, givenTests, used, adjoin, nameTests, joinRefusal}
+use Rattle.paper.specs.Refusal.{merged, countRefusal, deepened, holed}
 use Rattle.laws.proofs.Test.{and-left, and-right}
 use Rattle.paper.proofs.Alike.{alike-iff}
 
@@ -95,7 +97,7 @@ halves : List ℕ
 halves = 65 ∷ 66 ∷ 65 ∷ 66 ∷ []
 
 accepted : ℕ → ℕ → Tables → List ℕ
-accepted w h t = number (judged w h t) ∷ []
+accepted w h t = number (isDrawing w h t) ∷ []
 
 claims : List Claim
 claims =
@@ -154,7 +156,7 @@ beside-claims =
     ∷ record { computed = (drawing 1 1 (0 ∷ [])) .side1; stated = (drawing 1 1 p1) .side1 }
     -- and a cell's label may be the mark
     ∷ record { computed = (drawing 2 1 (65535 ∷ 65535 ∷ [])) .next3; stated = (drawing 2 1 p3) .next3 }
-    -- the judge accepts a drawing, also after joins, and refuses one in which a single entry differs
+    -- the test of refusal 5 is passed by a drawing, also after joins, and not by one in which a single entry differs
     ∷ record { computed = accepted 2 2 (drawing 2 2 p7); stated = 1 ∷ [] }
     ∷ record { computed = accepted 3 1 (joined 3 1 (drawing 3 1 row) 1 2); stated = 1 ∷ [] }
     ∷ record { computed = accepted 2 1 (drawing 2 2 p7); stated = 0 ∷ [] }
@@ -194,7 +196,7 @@ none (c ∷ cs) = alike (hanging-ends c) [] && none cs
 
 -- opens every definition that the claims compute with
 opened : Unit {0}
-unfolding hold row halves accepted joins hanging hanging-ends none beside-claims darts picked ones read refusal p1 p2 p3 p5 p6 p7 p8 claims label west north names lower tie ties least table listed some count run widest within mark points slots dart point direction beside far turned reversal stays line bits half has corner right left parts present degree inline named cells turn side border mask next plain last along big bent tops anchor kept2 kept3 among level marked first parent parents above depth holes drawn drawing fresh recover recovered alike same judged at on between shared chase removed rest1 rest3 low high spliced smooth smooths smoothed moved close closes closed joined sized cleared outcome levelRefusal levelTables levelled five stated drawRefusal mapped used adjoin joinRefusal merged countRefusal deepened holed
+unfolding hold row halves accepted joins hanging hanging-ends none beside-claims darts picked ones read refusal p1 p2 p3 p5 p6 p7 p8 claims label west north names lower tie ties least table listed some count run widest within mark points slots dart point direction beside far turned reversal stays line bits half has corner right left parts present degree inline named cells turn side border mask next plain last along big bent tops anchor kept2 kept3 among level marked first parent parents above depth holes drawn drawing fresh recover recovered alike same isDrawing at on between shared chase removed rest1 rest3 low high spliced smooth smooths smoothed moved close closes closed joined sized cleared outcome firstFailed levelTests drawTests sizeTests givenTests nameTests levelRefusal levelTables levelled five stated drawRefusal mapped used adjoin joinRefusal merged countRefusal deepened holed
 opened = tt
 
 no-hanging-ends : none joins ≡ true

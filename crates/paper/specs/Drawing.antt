@@ -4,7 +4,7 @@
 --   fresh w h s a b == drawn afresh from the cells' names, a and b both bearing the smaller
 --   Drawn w h t     == the five tables are the drawing of some sheet of this size
 --   recovered w h s == the labels that the sides of level 1 tell
---   judged w h t    == the five tables are the drawing of the recovered labels
+--   isDrawing w h t    == the five tables are the drawing of the recovered labels
 use mathlib.Core.Path.{_≡_}
 use mathlib.Core.Bool.{Bool, true, false, cond, _&&_}
 use mathlib.Core.List.{List, [], _∷_, map}
@@ -70,5 +70,5 @@ same t u =
     && alike (t .other3) (u .other3)
     && alike (t .parent) (u .parent)
 
-unfoldable pub judged : ℕ → ℕ → Tables → Bool
-judged w h t = same t (drawing w h (recovered w h (t .side1)))
+unfoldable pub isDrawing : ℕ → ℕ → Tables → Bool
+isDrawing w h t = same t (drawing w h (recovered w h (t .side1)))

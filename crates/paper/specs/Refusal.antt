@@ -2,19 +2,23 @@
 --   number          == the refusal's number, 0 for done
 --   values          == the numbers that are answered
 --   tables, work    == what the lent tables and the work tables hold afterwards, in the order in which they are lent
+--   .. Tests        == the tests of a call in the paper's order, each with the number of the refusal where it is not passed: n is the
+--                      sheet's length, k says that the lengths of the tables are the stated ones
+--   .. Refusal      == the number of the first refusal, 0 for none
 --   levelled, mapped, merged, deepened, holed == the outcomes of level drawing, whole drawing, joining, depth and hole count
 use mathlib.Core.Bool.{Bool, true, cond, not, _&&_, _||_}
-use mathlib.Core.List.{List, [], _∷_, map}
+use mathlib.Core.List.{List, [], _∷_, _++_, map}
 use Prim.Native.Nat.{ℕ, zero, suc, _+_, _*_}
-use lib.Dec.{eqb, ltb}
+use lib.Dec.{eqb, leb, ltb}
 use lib.ListN.{length, replicate}
 use Rattle.laws.specs.Table.{some}
+use Rattle.laws.specs.First.{firstFailed}
 use Rattle.sheet_size.specs.Size.{within}
 use Rattle.point_darts.specs.Dart.{slots, reversal}
 use Rattle.paper.specs.Name.{names}
 use Rattle.paper.specs.Level.{side, level, marked}
 use Rattle.paper.specs.Enclosure.{depth, holes}
-use Rattle.paper.specs.Drawing.{Tables, drawing, judged}
+use Rattle.paper.specs.Drawing.{Tables, drawing, isDrawing}
 use Rattle.paper.specs.Joining.{on, shared, joined}
 
 pub record Outcome : Type 0 where
@@ -37,12 +41,12 @@ outcome zero values before after ws = record { number = 0; values = values; tabl
 outcome (suc r) values before after ws =
     record { number = suc r; values = []; tables = before; work = cond (ltb r 4) ws (cleared ws) }
 
+-- Level drawing.
+unfoldable pub levelTests : ℕ → ℕ → ℕ → ℕ → Bool → List (Bool × ℕ)
+levelTests w h l n k = (within w h, 1) ∷ (leb l 3, 2) ∷ (eqb n (w * h), 3) ∷ (k, 4) ∷ []
+
 unfoldable pub levelRefusal : ℕ → ℕ → ℕ → List ℕ → List (List ℕ) → List (List ℕ) → ℕ
-levelRefusal w h l s ts ws =
-    cond (not (within w h)) 1
-    (cond (ltb 3 l) 2
-    (cond (not (eqb (length s) (w * h))) 3
-    (cond (not (sized (slots w h) ts && sized (slots w h) ws)) 4 0)))
+levelRefusal w h l s ts ws = firstFailed (levelTests w h l (length s) (sized (slots w h) (ts ++ ws)))
 
 -- next, other and side of level l
 unfoldable pub levelTables : ℕ → ℕ → ℕ → List ℕ → List (List ℕ)
@@ -57,24 +61,33 @@ levelled w h l s ts ws =
     let after = levelTables w h l s in
     outcome r [] ts after ws
 
+-- Whole drawing.
 unfoldable pub five : Tables → List (List ℕ)
 five t = t .next1 ∷ t .side1 ∷ t .next3 ∷ t .other3 ∷ t .parent ∷ []
 
 -- the five tables and the work tables have the stated lengths
 unfoldable pub stated : ℕ → ℕ → Tables → List (List ℕ) → Bool
 stated w h t ws =
-    sized (slots w h) (t .next1 ∷ t .side1 ∷ t .next3 ∷ t .other3 ∷ []) && sized (w * h + 1) (t .parent ∷ [])
-    && sized (slots w h) ws
+    sized (w * h + 1) (t .parent ∷ []) && sized (slots w h) (t .next1 ∷ t .side1 ∷ t .next3 ∷ t .other3 ∷ ws)
+
+unfoldable pub drawTests : ℕ → ℕ → ℕ → Bool → List (Bool × ℕ)
+drawTests w h n k = (within w h, 1) ∷ (eqb n (w * h), 3) ∷ (k, 4) ∷ []
 
 unfoldable pub drawRefusal : ℕ → ℕ → List ℕ → Tables → List (List ℕ) → ℕ
-drawRefusal w h s t ws =
-    cond (not (within w h)) 1 (cond (not (eqb (length s) (w * h))) 3 (cond (not (stated w h t ws)) 4 0))
+drawRefusal w h s t ws = firstFailed (drawTests w h (length s) (stated w h t ws))
 
 unfoldable pub mapped : ℕ → ℕ → List ℕ → Tables → List (List ℕ) → Outcome
 mapped w h s t ws =
     let r = drawRefusal w h s t ws in
     let after = five (drawing w h s) in
     outcome r [] (five t) after ws
+
+-- Calls that are given a drawing.
+unfoldable pub sizeTests : ℕ → ℕ → Bool → List (Bool × ℕ)
+sizeTests w h k = (within w h, 1) ∷ (k, 4) ∷ []
+
+unfoldable pub givenTests : ℕ → ℕ → Tables → List (List ℕ) → List (Bool × ℕ)
+givenTests w h t ws = sizeTests w h (stated w h t ws) ++ (isDrawing w h t, 5) ∷ []
 
 -- some region has the name r
 unfoldable pub used : Tables → ℕ → Bool
@@ -84,13 +97,11 @@ used t r = on (t .parent) r
 unfoldable pub adjoin : ℕ → ℕ → Tables → ℕ → ℕ → Bool
 adjoin w h t a b = some (slots w h) (shared (t .side1) (reversal w) a b)
 
+unfoldable pub nameTests : Tables → ℕ → ℕ → List (Bool × ℕ)
+nameTests t a b = (not (eqb a 0 || eqb b 0), 6) ∷ (not (eqb a b), 7) ∷ (used t a && used t b, 8) ∷ []
+
 unfoldable pub joinRefusal : ℕ → ℕ → Tables → ℕ → ℕ → List (List ℕ) → ℕ
-joinRefusal w h t a b ws =
-    cond (not (within w h)) 1
-    (cond (not (stated w h t ws)) 4
-    (cond (not (judged w h t)) 5
-    (cond (eqb a 0 || eqb b 0) 6
-    (cond (eqb a b) 7 (cond (not (used t a && used t b)) 8 (cond (not (adjoin w h t a b)) 9 0))))))
+joinRefusal w h t a b ws = firstFailed (givenTests w h t ws ++ nameTests t a b ++ (adjoin w h t a b, 9) ∷ [])
 
 unfoldable pub merged : ℕ → ℕ → Tables → ℕ → ℕ → List (List ℕ) → Outcome
 merged w h t a b ws =
@@ -99,9 +110,7 @@ merged w h t a b ws =
     outcome r [] (five t) after ws
 
 unfoldable pub countRefusal : ℕ → ℕ → Tables → ℕ → List (List ℕ) → ℕ
-countRefusal w h t r ws =
-    cond (not (within w h)) 1
-    (cond (not (stated w h t ws)) 4 (cond (not (judged w h t)) 5 (cond (not (eqb r 0 || used t r)) 8 0)))
+countRefusal w h t r ws = firstFailed (givenTests w h t ws ++ (eqb r 0 || used t r, 8) ∷ [])
 
 unfoldable pub deepened : ℕ → ℕ → Tables → ℕ → List (List ℕ) → Outcome
 deepened w h t r ws = outcome (countRefusal w h t r ws) (depth (t .parent) r ∷ []) (five t) (five t) ws

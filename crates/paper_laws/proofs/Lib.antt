@@ -10,8 +10,8 @@ pub mod Fewer
 pub mod First
 pub mod Grid
 pub mod Held
+pub mod IsDrawing
 pub mod Joined
-pub mod Judge
 pub mod Kept
 pub mod Marks
 pub mod Name

@@ -1,8 +1,8 @@
 ghost use mathlib.Core.Path.{_≡_};
-ghost use mathlib.Core.Bool.{_&&_};
+ghost use mathlib.Core.Bool.{true, _&&_};
 ghost use Prim.Native.Nat.{_-_, _+_, _<_};
 ghost use Rattle.sheet_size.specs.Size.{within};
-ghost use Rattle.point_darts.specs.Dart.{made, point, direction, beside, stays, line, reversed};
+ghost use Rattle.point_darts.specs.Dart.{points, slots, made, point, direction, beside, stays, line, reversed};
 
 // "None" in every table of links, sides or parents: never a dart, a point or a name.
 pub const MARK: u16 = 65535;
@@ -10,6 +10,22 @@ pub const MARK: u16 = 65535;
 // A unit line that leaves a point, by its number: 4 times the point, plus the direction.
 pub struct Dart {
     pub number: u16,
+}
+
+// How many points a sheet has: one more than cells to a row, and one more row of them than of cells.
+pub fn points(width: u16, height: u16) -> u16
+    requires { ⌜ within width height ≡ true ⌝ }
+    ensures { λ r. ⌜ r ≡ points width height ⌝ }
+{
+    (width + 1) * (height + 1)
+}
+
+// How many dart numbers a sheet has: four for each point.
+pub fn slots(width: u16, height: u16) -> u16
+    requires { ⌜ within width height ≡ true ⌝ }
+    ensures { λ r. ⌜ r ≡ slots width height ⌝ }
+{
+    4 * points(width, height)
 }
 
 // a less b, or 0 where b is larger.

@@ -17,12 +17,12 @@ use Rattle.point_darts.specs.Dart.{mark, slots}
 use Rattle.paper.specs.Name.{names}
 use Rattle.paper.specs.Level.{side, border}
 use Rattle.paper.specs.Enclosure.{parent}
-use Rattle.paper.specs.Drawing.{Tables, drawn, drawing, judged}
+use Rattle.paper.specs.Drawing.{Tables, drawn, drawing, isDrawing}
 use Rattle.paper.specs.Joining.{at, on}
 use Rattle.paper_laws.proofs.Marks.{within-fits}
 use Rattle.paper_laws.proofs.Enclosure.{Used, parentage, parents-outside, parents-past, parents-used, parents-below}
 use Rattle.paper_laws.proofs.Enclosure.{parents-named, used-parent}
-use Rattle.paper_laws.proofs.Judge.{judged-drawn}
+use Rattle.paper_laws.proofs.IsDrawing.{is-drawing-drawn}
 use Rattle.region_depths.specs.Tree.{known, Falls}
 
 -- an entry that is on is not the mark
@@ -69,10 +69,10 @@ module _ (w h : ℕ) (s : List ℕ) (fits : slots w h ≤ mark) where
             (parents-named w h s (u .cell) (u .below) (u .own)));
       }
 
--- What the judge accepts has such parents, as many as the cells and one more.
-module _ (w h : ℕ) (t : Tables) (e : within w h ≡ true) (j : judged w h t ≡ true) where
-  pub judged-falls : Falls (t .parent)
+-- A drawing has such parents, as many as the cells and one more.
+module _ (w h : ℕ) (t : Tables) (e : within w h ≡ true) (j : isDrawing w h t ≡ true) where
+  pub is-drawing-falls : Falls (t .parent)
   unfolding drawing drawn
-  judged-falls =
-      let d = judged-drawn w h t j in
+  is-drawing-falls =
+      let d = is-drawing-drawn w h t j in
       rw (← ap (λ (u : Tables). u .parent) (d .same)) (parentage-falls w h (d .labels) (within-fits w h e))

@@ -5,7 +5,7 @@ use native.Mathlib.Omega.{arith}
 use Rattle.point_darts.proofs.Fit.{cells-fit}
 use Rattle.table_entries.proofs.Front.{front-in, front-long, front-back, back-in, back-long}
 use Rattle.drawing.proofs.Whole.{tops-rising}
-use Rattle.check_call.proofs.Judged.{names-part, curves-no, curves-yes}
+use Rattle.check_call.proofs.Agreeing.{names-part, curves-no, curves-yes}
 use borrow.Author.Needs.{needs}
 use Rattle.check_call.proofs.agree.curves_agree.Statement.{statement}
 use Rattle.check_call.proofs.agree.curves_agree.Tie as tie

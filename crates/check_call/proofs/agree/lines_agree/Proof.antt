@@ -5,7 +5,7 @@ use native.Mathlib.Omega.{arith}
 use Rattle.point_darts.proofs.Fit.{cells-fit}
 use Rattle.table_entries.proofs.Front.{front-in, front-long, front-kept, front-back, back-in, back-long}
 use Rattle.region_names.proofs.Room.{cells-part}
-use Rattle.check_call.proofs.Judged.{lines-judged}
+use Rattle.check_call.proofs.Agreeing.{lines-is-drawing}
 use borrow.Author.Needs.{needs}
 use Rattle.check_call.proofs.agree.lines_agree.Statement.{statement}
 use Rattle.check_call.proofs.agree.lines_agree.Tie as tie
@@ -53,7 +53,7 @@ same-length-4 : tie.Need-same-length-4
 same-length-4 c = c .before .before .before .before .before .before .before .before .before .draw-lines .kept .1 .1 .1 .1 .1 .0
 
 returns : tie.Need-returns
-returns c = lines-judged _ _ _ _ _ _ _ _ _ _ _ (front-back _ _ (c .before .before .before .before .before .before .before .before .before .before .before .before .before .before .before .before .before .before .before .before .before .before .before .before .before .before .before .before .before .before .before .before .args .c .now) (c .before .before .before .before .before .before .before .before .before .before .before .before .before .before .before .before .before .before .before .before .before .before .before .before .before .before .before .before .before .before .before .before .pre .3) (cells-part _ _) (c .before .before .before .before .before .before .before .before .before .before .before .before .before .before .before .before .before .before .before .before .before .before .before .before .recover .last .1 .1 .1 .0) (c .before .before .before .before .before .before .before .before .before .before .before .before .before .before .before .before .before .before .before .before .before .before .before .before .recover .kept .1 .1 .1 .0)) (c .before .before .before .before .before .before .before .before .before .before .before .before .before .before .before .before .before .before .before .before .before .before .before .before .recover .ensures) (c .before .before .before .before .before .before .before .before .before .before .before .before .before .before .before .before .before .before .name-cells .ensures) (c .before .before .before .before .before .before .before .before .before .draw-lines .ensures) (c .both-same .ensures)
+returns c = lines-is-drawing _ _ _ _ _ _ _ _ _ _ _ (front-back _ _ (c .before .before .before .before .before .before .before .before .before .before .before .before .before .before .before .before .before .before .before .before .before .before .before .before .before .before .before .before .before .before .before .before .args .c .now) (c .before .before .before .before .before .before .before .before .before .before .before .before .before .before .before .before .before .before .before .before .before .before .before .before .before .before .before .before .before .before .before .before .pre .3) (cells-part _ _) (c .before .before .before .before .before .before .before .before .before .before .before .before .before .before .before .before .before .before .before .before .before .before .before .before .recover .last .1 .1 .1 .0) (c .before .before .before .before .before .before .before .before .before .before .before .before .before .before .before .before .before .before .before .before .before .before .before .before .recover .kept .1 .1 .1 .0)) (c .before .before .before .before .before .before .before .before .before .before .before .before .before .before .before .before .before .before .before .before .before .before .before .before .recover .ensures) (c .before .before .before .before .before .before .before .before .before .before .before .before .before .before .before .before .before .before .name-cells .ensures) (c .before .before .before .before .before .before .before .before .before .draw-lines .ensures) (c .both-same .ensures)
 
 pub lines-agree-spec : {M : Type 1} → statement M
 lines-agree-spec =

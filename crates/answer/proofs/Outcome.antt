@@ -1,0 +1,87 @@
+-- The outcomes that an answer tells.
+--   outcome k vs ts us ws == the outcome with the number k: done, the values vs and the tables us; else the tables ts
+--   work-left k ws  == what such an outcome leaves of the work tables ws
+--   told r ts ws    == the outcome that the answer r tells, with no values
+use mathlib.Core.Path.{_≡_, refl, sym, _∙_}
+use mathlib.Core.Bool.{cond}
+use mathlib.Core.List.{List, []}
+use mathlib.Core.Logic.{_≢_}
+use Prim.Native.Nat.{ℕ, zero, suc, _≤_, _<_}
+use native.Mathlib.Omega.{arith}
+use lib.Dec.{ltb}
+use borrow.Author.Tests.{lt-ltb, le-ltb}
+use Rattle.paper.specs.Refusal.{outcome, cleared}
+use Rattle.answer.specs.declared.Answer.{Answer}
+use Rattle.answer.specs.Answer.{numberOf, left, told}
+
+pub work-left : ℕ → List (List ℕ) → List (List ℕ)
+work-left zero ws = cleared ws
+work-left (suc k) ws = cond (ltb k 4) ws (cleared ws)
+
+-- refusals 1 to 4 leave the work tables
+pub work-kept : (k : ℕ) (ws : List (List ℕ)) → k ≢ 0 → k < 5 → work-left k ws ≡ ws
+unfolding work-left
+work-kept zero ws n l = absurd (n refl)
+work-kept (suc k) ws n l = rw (lt-ltb k 4 (omega (arith, l)))
+
+-- done and the later refusals clear them
+pub work-cleared : (k : ℕ) (ws : List (List ℕ)) → (k ≢ 0 → 5 ≤ k) → work-left k ws ≡ cleared ws
+unfolding work-left
+work-cleared zero ws l = refl
+work-cleared (suc k) ws l = rw (le-ltb k 4 (omega (arith, l (λ z. omega (arith, z)))))
+
+-- The number and the work tables of an outcome.
+module _ (k : ℕ) (vs : List ℕ) (ts us ws : List (List ℕ)) where
+  pub outcome-number : outcome k vs ts us ws .number ≡ k
+  unfolding outcome
+  outcome-number = by k
+    where
+      by : (k : ℕ) → outcome k vs ts us ws .number ≡ k
+      by zero = refl
+      by (suc k) = refl
+
+  pub outcome-work : outcome k vs ts us ws .work ≡ work-left k ws
+  unfolding outcome work-left
+  outcome-work = by k
+    where
+      by : (k : ℕ) → outcome k vs ts us ws .work ≡ work-left k ws
+      by zero = refl
+      by (suc k) = refl
+
+  -- an outcome that refuses, and one that is done
+  pub outcome-refused : k ≢ 0 → (xs : List (List ℕ)) → xs ≡ work-left k ws → left k [] ts xs ≡ outcome k vs ts us ws
+  unfolding outcome work-left
+  outcome-refused = by k
+    where
+      by : (k : ℕ) → k ≢ 0 → (xs : List (List ℕ)) → xs ≡ work-left k ws → left k [] ts xs ≡ outcome k vs ts us ws
+      by zero n xs e = absurd (n refl)
+      by (suc k) n xs e = rw e
+
+  pub outcome-done : k ≡ 0 → (zs xs : List (List ℕ)) → zs ≡ us → xs ≡ cleared ws → left 0 vs zs xs ≡ outcome k vs ts us ws
+  unfolding outcome
+  outcome-done e zs xs p q = rw (e, p, q)
+
+-- An answer of a number.
+module _ (r : Answer) (k : ℕ) (e : numberOf r ≡ k) where
+  pub told-refused : numberOf r ≢ 0 → (vs : List ℕ) (ts us ws xs : List (List ℕ)) → xs ≡ work-left k ws
+      → told r ts xs ≡ outcome k vs ts us ws
+  unfolding told
+  told-refused n vs ts us ws xs p = rw e (outcome-refused k vs ts us ws (λ z. n (e ∙ z)) xs p)
+
+  -- the number is below 5, so that nothing has changed
+  pub told-early : numberOf r ≢ 0 → k < 5 → (vs : List ℕ) (ts us ws : List (List ℕ)) → told r ts ws ≡ outcome k vs ts us ws
+  told-early n l vs ts us ws = told-refused n vs ts us ws ws (sym (work-kept k ws (λ z. n (e ∙ z)) l))
+
+  pub told-done : numberOf r ≡ 0 → (ts us ws zs xs : List (List ℕ)) → zs ≡ us → xs ≡ cleared ws
+      → told r zs xs ≡ outcome k [] ts us ws
+  unfolding told
+  told-done z ts us ws zs xs p q = rw z (outcome-done k [] ts us ws (sym e ∙ z) zs xs p q)
+
+  -- a call that leaves its tables, whatever it answers
+  pub told-left : (ts ws xs : List (List ℕ)) → xs ≡ work-left k ws → told r ts xs ≡ outcome k [] ts ts ws
+  unfolding told work-left outcome
+  told-left ts ws xs p = rw e (by k p)
+    where
+      by : (k : ℕ) → xs ≡ work-left k ws → left k [] ts xs ≡ outcome k [] ts ts ws
+      by zero p = rw p
+      by (suc k) p = rw p

@@ -1,0 +1,91 @@
+use mathlib.Core.Path.{_∙_}
+use Rattle.table_lengths.proofs.Tested.{stated-slots}
+use Rattle.check_call.proofs.Agreeing.{is-drawing-no, is-drawing-yes}
+use Rattle.check_call.proofs.check.is_drawing.Statement.{statement}
+use Rattle.check_call.proofs.check.is_drawing.Tie as tie
+
+-- From each station back to the one before it, and to the start.
+abbrev start : tie.After-lines-agree → tie.Start
+start c = c .before .before .before .before .before .before .before .before .before .before .before .before .before .before
+
+abbrev lined : tie.After-curves-agree → tie.After-lines-agree
+lined c = c .before .before .before .before .before .before .before .before .before .before .before .before .before .before
+
+abbrev curved : tie.After-slice-known12 → tie.After-curves-agree
+curved c = c .before .before .before .before .before .before .before .before
+
+lines-agree-requires : tie.Need-lines-agree-requires
+lines-agree-requires c κs =
+    let q = c .before .before .before .before .before .before .before .before .before .before .before .before .before .pre in
+    let l = stated-slots _ _ _ _ (q .1) .1 .1 .1 .1 in
+    (q .0, l .0, l .1 .0, l .1 .1 .0, l .1 .1 .1 .0)
+
+same-length : tie.Need-same-length
+same-length c = c .before .before .before .before .before .before .before .before .before .lines-agree .kept .1 .1 .1 .1 .0
+
+same-length-2 : tie.Need-same-length-2
+same-length-2 c = c .before .before .before .before .before .before .before .before .before .lines-agree .kept .1 .1 .1 .1 .1 .0
+
+same-length-3 : tie.Need-same-length-3
+same-length-3 c = c .before .before .before .before .before .before .before .before .before .lines-agree .kept .1 .1 .1 .1 .1 .1 .0
+
+same-length-4 : tie.Need-same-length-4
+same-length-4 c = c .before .before .before .before .before .before .before .before .before .lines-agree .kept .1 .1 .1 .1 .1 .1 .1 .0
+
+returns : tie.Need-returns
+returns c =
+    let l = c .before .before .before .before .before .before .before .before .before in
+    is-drawing-no _ _ _ (start l .pre .0) _ (l .lines-agree .ensures .0) (c .if1 .taken)
+
+curves-agree-requires : tie.Need-curves-agree-requires
+curves-agree-requires c κs =
+    let l = c .before .before .before .before .before .before .before .before .before .before .before .before .before in
+    let q = start l .pre in
+    let s = stated-slots _ _ _ _ (q .1) in
+    let k = l .lines-agree .kept .1 .1 .1 .1 in
+    let w = s .1 .1 .1 .1 in
+    (q .0, s .1 .0, k .0 ∙ w .0, k .1 .0 ∙ w .1 .0, k .1 .1 .0 ∙ w .1 .1 .0, k .1 .1 .1 .0 ∙ w .1 .1 .1 .0)
+
+same-length-5 : tie.Need-same-length-5
+same-length-5 c =
+    let e = curved c in
+    e .curves-agree .kept .1 .1 .1 .1 .1 .1 .1 .0 ∙ lined e .lines-agree .kept .1 .1 .1 .1 .0
+
+same-length-6 : tie.Need-same-length-6
+same-length-6 c =
+    let e = curved c in
+    e .curves-agree .kept .1 .1 .1 .1 .1 .1 .1 .1 .0 ∙ lined e .lines-agree .kept .1 .1 .1 .1 .1 .0
+
+same-length-7 : tie.Need-same-length-7
+same-length-7 c =
+    let e = curved c in
+    e .curves-agree .kept .1 .1 .1 .1 .1 .1 .1 .1 .1 .0 ∙ lined e .lines-agree .kept .1 .1 .1 .1 .1 .1 .0
+
+same-length-8 : tie.Need-same-length-8
+same-length-8 c =
+    let e = curved c in
+    e .curves-agree .kept .1 .1 .1 .1 .1 .1 .1 .1 .1 .1 .0 ∙ lined e .lines-agree .kept .1 .1 .1 .1 .1 .1 .1 .0
+
+returns-2 : tie.Need-returns-2
+returns-2 c =
+    let e = curved c in
+    let l = lined e in
+    is-drawing-yes _ _ _ (start l .pre .0) _ (l .lines-agree .ensures .0) (e .before .before .before .before .before .if1 .left) _ _
+    (l .lines-agree .ensures .1) (e .curves-agree .ensures)
+
+pub is-drawing-spec : {M : Type 1} → statement M
+is-drawing-spec =
+    tie.close
+    (tie.spec
+    lines-agree-requires
+    same-length
+    same-length-2
+    same-length-3
+    same-length-4
+    returns
+    curves-agree-requires
+    same-length-5
+    same-length-6
+    same-length-7
+    same-length-8
+    returns-2)
