@@ -22,7 +22,7 @@ use Rattle.point_rules.specs.Turn.{turn}
 use Rattle.paper.specs.Name.{label, west, north, names, named, cells}
 use Rattle.paper.specs.Level.{side, border, mask, next, plain, last, along, big, bent, tops, anchor, kept2, kept3, among}
 use Rattle.paper.specs.Level.{level, marked}
-use Rattle.paper.specs.Enclosure.{first, parent, parents, above, depth, holes}
+use Rattle.paper.specs.Enclosure.{topSide, parent, parents, above, depth, holes}
 use Rattle.paper.specs.Drawing.{Tables, drawn, drawing, fresh, recover, recovered, alike, same, judged}
 use Rattle.paper.specs.Joining.{Links, at, on, between, shared, chase, removed, rest1, rest3, low, high, spliced}
 use Rattle.paper.specs.Joining.{smooth, smooths, smoothed, moved, close, closes, closed, joined}
@@ -209,7 +209,7 @@ unfolding label west north names named cells side border mask next plain last al
 levels-open = tt
 
 drawings-open : Unit {0}
-unfolding level marked first parent parents above depth holes drawn drawing fresh recover recovered alike same judged
+unfolding level marked topSide parent parents above depth holes drawn drawing fresh recover recovered alike same judged
 drawings-open = tt
 
 joins-open : Unit {0}
