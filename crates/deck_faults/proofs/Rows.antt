@@ -19,8 +19,8 @@ use Rattle.deck_card.specs.Layout.{heading}
 use Rattle.deck_card.proofs.Cards.{length-card, card-content, card-feed, card-columns, card-number}
 use Rattle.deck_card.proofs.Every.{same-refl, same-true, every-blank, every-blanks}
 use Rattle.deck_card.proofs.Headings.{length-heading, heading-fits}
-use Rattle.deck_faults.specs.Fault.{numbered, frame, value, width, height, headed, header, row}
-use Rattle.deck_faults.proofs.Frames.{header-is, header-frame, header-headed, row-is, row-none, frame-none}
+use Rattle.deck_faults.specs.Fault.{numbered, form, value, width, height, headed, header, row}
+use Rattle.deck_faults.proofs.Forms.{header-is, header-form, header-headed, row-is, row-none, form-none}
 
 -- A card with a content that fits it.
 module _ (k : ℕ) (c : List ℕ) (fits : length c ≤ columns) where
@@ -32,9 +32,9 @@ module _ (k : ℕ) (c : List ℕ) (fits : length c ≤ columns) where
         feed-is = card-feed k c fits (columns + places) (omega arith) (omega arith);
       })
 
-  pub card-framed : frame k (card k c) ≡ 0
-  unfolding frame numbered long
-  card-framed =
+  pub card-formed : form k (card k c) ≡ 0
+  unfolding form numbered long
+  card-formed =
       let n : length (card k c) ≡ 0 → ⊥ = λ e. omega (arith, length-card k c fits) in
       rw (ne-eqb (length (card k c)) 0 n, card-whole, card-number k c fits, same-refl)
 
@@ -49,13 +49,13 @@ module _ (k : ℕ) (c : List ℕ) (fits : length c ≤ columns) where
 
   -- with cells that may stand on it it is not refused
   pub card-row : every visible c ≡ true → row (length c) k (card k c) ≡ 0
-  card-row v = rw (row-is (length c) k (card k c) card-framed, card-cells, v, card-blanks, every-blanks)
+  card-row v = rw (row-is (length c) k (card k c) card-formed, card-cells, v, card-blanks, every-blanks)
 
--- A card whose frame is not refused: its content's columns, its number, the line feed.
-pub framed-is : (k : ℕ) (c : List ℕ) → frame k c ≡ 0 → c ≡ take columns c ++ (digits places k ++ (feed ∷ []))
+-- A card whose form is not refused: its content's columns, its number, the line feed.
+pub formed-is : (k : ℕ) (c : List ℕ) → form k c ≡ 0 → c ≡ take columns c ++ (digits places k ++ (feed ∷ []))
 unfolding numbered long
-framed-is k c e =
-    let f = frame-none k c e in
+formed-is k c e =
+    let f = form-none k c e in
     let q = whole-is c (f .whole-is) in
     let n = q .length-is in
     let none = drop-of-length-le c {i = suc (columns + places)} (omega arith) in
@@ -71,7 +71,7 @@ pub row-card : (w k : ℕ) (c : List ℕ) → w ≤ columns → row w k c ≡ 0 
 unfolding card padded long
 row-card w k c h e =
     let r = row-none w k c e in
-    let n = whole-is c (frame-none k c (r .frame-is) .whole-is) .length-is in
+    let n = whole-is c (form-none k c (r .form-is) .whole-is) .length-is in
     let m = length-take-le columns c (omega arith) in
     let a = length-take-le w c (omega arith) in
     let b : length (slice w columns c) ≡ columns - length (take w c) = length-drop w (take columns c) ∙ omega arith in
@@ -79,7 +79,7 @@ row-card w k c h e =
     sym (take-append-drop w (take columns c))
     ∙ (λ i. take-take w columns c h i ++ every-blank (slice w columns c) (r .blanks-are) i)
     ∙ ap (λ x. take w c ++ replicate x blank) b in
-    framed-is k c (r .frame-is) ∙ ap (λ x. x ++ (digits places k ++ (feed ∷ []))) content
+    formed-is k c (r .form-is) ∙ ap (λ x. x ++ (digits places k ++ (feed ∷ []))) content
 
 -- Two digits are read as they are written.
 value-digits : (n : ℕ) → n < 100 → value (digit n 1) (digit n 0) ≡ n
@@ -109,8 +109,8 @@ module _ (w h : ℕ) (size : within w h ≡ true) where
   unfolding headed
   heading-header =
       let c = heading w h in
-      let framed = header-is (card 1 c) (card-framed 1 c (heading-fits w h)) in
-      rw (framed, heading-width, heading-height, size, card-columns 1 c (heading-fits w h), same-refl)
+      let formed = header-is (card 1 c) (card-formed 1 c (heading-fits w h)) in
+      rw (formed, heading-width, heading-height, size, card-columns 1 c (heading-fits w h), same-refl)
 
 -- a header that is not refused
 pub header-card : (c : List ℕ) → header c ≡ 0 → c ≡ card 1 (heading (width c) (height c))
@@ -119,5 +119,5 @@ header-card c e =
     let w = width c in
     let h = height c in
     let p = and-right (within w h) (same (take columns c) (padded (heading w h))) (header-headed c e) in
-    framed-is 1 c (header-frame c e)
+    formed-is 1 c (header-form c e)
     ∙ ap (λ x. x ++ (digits places 1 ++ (feed ∷ []))) (same-true (take columns c) (padded (heading w h)) p)

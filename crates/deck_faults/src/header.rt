@@ -1,4 +1,4 @@
-use crate::frame;
+use crate::form;
 use deck_card::bytes;
 use deck_card::card::COLUMNS;
 use deck_card::layout;
@@ -42,14 +42,14 @@ pub fn height(card: &[u8]) -> u16
     value(at(card, 8), at(card, 9))
 }
 
-// The refusal of a header: its frame's, or 21 where it is not the header of the size that it names, or the size is none;
+// The refusal of a header: its form's, or 21 where it is not the header of the size that it names, or the size is none;
 // else 0.
 pub fn refusal(card: &[u8]) -> u16
     ensures { λ r. ⌜ r ≡ header (now (card .entry)) ⌝ }
 {
-    let frame = frame::refusal(card, 1);
-    if frame != 0 {
-        return frame;
+    let form = form::refusal(card, 1);
+    if form != 0 {
+        return form;
     }
     let width = width(card);
     let height = height(card);

@@ -1,4 +1,4 @@
-// What a card is refused for: its frame, as the header with the size that it names, and as a row's card.
-pub mod frame;
+// What a card is refused for: its form, as the header with the size that it names, and as a row's card.
+pub mod form;
 pub mod header;
 pub mod row;

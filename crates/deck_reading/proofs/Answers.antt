@@ -16,7 +16,7 @@ use Rattle.deck_card.specs.Card.{long, whole}
 use Rattle.deck_card.proofs.Parts.{whole-is}
 use Rattle.deck_card.specs.Layout.{rowCards, held}
 use Rattle.deck_faults.specs.Fault.{width, height, header, row}
-use Rattle.deck_faults.proofs.Frames.{frame-none, header-frame, header-within, row-frame}
+use Rattle.deck_faults.proofs.Forms.{form-none, header-form, header-within, row-form}
 use Rattle.deck_reading.specs.Judging.{stopped, rows, judged}
 
 -- A refusal stops the reading; none lets it go on.
@@ -61,7 +61,7 @@ module _ (w h k : ℕ) (d : List ℕ) where
 
   -- a card that is not refused is whole
   pub row-whole : row (held w k) k (take long d) ≡ 0 → long ≤ length d
-  row-whole e = first-whole d (frame-none k (take long d) (row-frame (held w k) k (take long d) e) .whole-is)
+  row-whole e = first-whole d (form-none k (take long d) (row-form (held w k) k (take long d) e) .whole-is)
 
 module _ (d : List ℕ) where
   -- the header is refused
@@ -77,7 +77,7 @@ module _ (d : List ℕ) where
   judged-go e = sym (stopped-none _ 1 _ e)
 
   pub header-whole : header (take long d) ≡ 0 → long ≤ length d
-  header-whole e = first-whole d (frame-none 1 (take long d) (header-frame (take long d) e) .whole-is)
+  header-whole e = first-whole d (form-none 1 (take long d) (header-form (take long d) e) .whole-is)
 
 -- Answers that are a sheet.
 pub stopped-sheet : (m k w h : ℕ) (r : Read) → stopped m k r ≡ Sheet w h → (m ≡ 0) × (r ≡ Sheet w h)

@@ -18,7 +18,7 @@ use Rattle.deck_card.proofs.Parts.{whole-is, part-held}
 use Rattle.deck_card.specs.Layout.{rowCards, held}
 use Rattle.deck_card.proofs.Sizes.{held-measured, held-most, sum, sum-all}
 use Rattle.deck_faults.specs.Fault.{row}
-use Rattle.deck_faults.proofs.Frames.{frame-none, row-frame}
+use Rattle.deck_faults.proofs.Forms.{form-none, row-form}
 use Rattle.deck_reading.specs.Judging.{rows}
 use Rattle.deck_reading.proofs.Answers.{rows-next, row-whole}
 use Rattle.deck_reading.specs.Reading.{room, cells, filled}
@@ -28,12 +28,12 @@ module _ (w h : ℕ) (size : within w h ≡ true) where
   -- a card that is not refused gives as many cells as it holds
   pub part-is : (k : ℕ) (c : List ℕ) → row (held w k) k c ≡ 0 → part (held w k) c ≡ take (held w k) c
   part-is k c e =
-      part-held (held w k) c (held-measured w h size k) (frame-none k c (row-frame (held w k) k c e) .whole-is)
+      part-held (held w k) c (held-measured w h size k) (form-none k c (row-form (held w k) k c e) .whole-is)
 
   pub length-part : (k : ℕ) (c : List ℕ) → row (held w k) k c ≡ 0 → length (part (held w k) c) ≡ held w k
   unfolding long
   length-part k c e =
-      let n = whole-is c (frame-none k c (row-frame (held w k) k c e) .whole-is) .length-is in
+      let n = whole-is c (form-none k c (row-form (held w k) k c e) .whole-is) .length-is in
       let m = held-most w h size k in
       let b : held w k ≤ length c = omega arith in
       ap length (part-is k c e) ∙ length-take-le (held w k) c b

@@ -25,7 +25,7 @@ use Rattle.deck_card.proofs.Every.{every-take, every-drop, every-append}
 use Rattle.deck_card.proofs.Headings.{heading-fits}
 use Rattle.deck_card.proofs.Sizes.{held-measured, held-most, sum, sum-all}
 use Rattle.deck_faults.specs.Fault.{row}
-use Rattle.deck_faults.proofs.Frames.{row-none}
+use Rattle.deck_faults.proofs.Forms.{row-none}
 use Rattle.deck_faults.proofs.Rows.{card-whole, card-cells, card-row, row-card}
 use Rattle.deck_faults.proofs.Rows.{heading-width, heading-height, heading-header, header-card}
 use Rattle.deck_writing.specs.Writing.{rowDeck, deckOf, deckLength, written as answered, bytesAfter, writing}

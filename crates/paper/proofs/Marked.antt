@@ -12,7 +12,7 @@ use mathlib.Core.Bool.{Bool, true, false, _&&_}
 use mathlib.Core.List.{List, [], _∷_, _++_, map}
 use Prim.Native.Nat.{ℕ, zero, suc}
 use lib.Dec.{eqb, ltb}
-use Rattle.laws.specs.Table.{listed, table, number, count, some}
+use Rattle.laws.specs.Table.{table, number, count, some}
 use Rattle.laws.specs.First.{firstFailed}
 use Rattle.laws.specs.Least.{lower, tie, ties, least}
 use Rattle.laws.specs.Run.{run}
@@ -23,13 +23,11 @@ use Rattle.point_rules.specs.Turn.{turn}
 use Rattle.paper.specs.Name.{label, west, north, names, named, cells}
 use Rattle.paper.specs.Level.{side, border, mask, next, plain, last, along, big, bent, tops, anchor, kept2, kept3, among}
 use Rattle.paper.specs.Level.{level, marked}
-use Rattle.paper.specs.Enclosure.{first, parent, parents, above, depth, holes}
+use Rattle.paper.specs.Enclosure.{topSide, parent, parents, above, depth, holes}
 use Rattle.paper.specs.Drawing.{Tables, drawn, drawing, fresh, recover, recovered, alike, same, isDrawing}
 use Rattle.paper.specs.Joining.{Links, at, on, between, shared, chase, removed, rest1, rest3, low, high, spliced}
 use Rattle.paper.specs.Joining.{smooth, smooths, smoothed, moved, close, closes, closed, joined}
-use Rattle.paper.specs.Refusal.{sized, cleared, outcome, levelTests, levelRefusal, levelTables, levelled, five, stated}
-use Rattle.paper.specs.Refusal.{drawTests, drawRefusal, mapped, sizeTests, givenTests, used, adjoin, nameTests, joinRefusal}
-use Rattle.paper.specs.Refusal.{merged, countRefusal, deepened, holed}
+use Rattle.paper.specs.Refusal.{sized, outcome, five, stated, sizeTests, givenTests, used, adjoin, nameTests, joinRefusal, merged}
 use Rattle.laws.proofs.Test.{and-left, and-right}
 use Rattle.paper.proofs.Alike.{alike-iff}
 
@@ -194,9 +192,45 @@ none : List Case → Bool
 none [] = true
 none (c ∷ cs) = alike (hanging-ends c) [] && none cs
 
--- opens every definition that the claims compute with
+-- the definitions that the claims compute with, opened room by room
+laws-open : Unit {0}
+unfolding table count some lower tie ties least run
+laws-open = tt
+
+points-open : Unit {0}
+unfolding widest within mark points slots dart point direction beside far turned reversal stays line turn
+points-open = tt
+
+masks-open : Unit {0}
+unfolding bits half has corner right left parts present degree inline
+masks-open = tt
+
+levels-open : Unit {0}
+unfolding label west north names named cells side border mask next plain last along big bent tops anchor kept2 kept3 among
+levels-open = tt
+
+drawings-open : Unit {0}
+unfolding level marked topSide parent parents above depth holes drawn drawing fresh recover recovered alike same isDrawing
+drawings-open = tt
+
+joins-open : Unit {0}
+unfolding at on between shared chase removed rest1 rest3 low high spliced smooth smooths smoothed moved close closes closed joined
+joins-open = tt
+
+refusals-open : Unit {0}
+unfolding firstFailed sized outcome five stated sizeTests givenTests used adjoin nameTests joinRefusal merged
+refusals-open = tt
+
+sheets-open : Unit {0}
+unfolding p1 p2 p3 p5 p6 p7 p8 row halves
+sheets-open = tt
+
+cases-open : Unit {0}
+unfolding refusal accepted darts picked ones read hold claims beside-claims joins hanging hanging-ends none
+cases-open = tt
+
 opened : Unit {0}
-unfolding hold row halves accepted joins hanging hanging-ends none beside-claims darts picked ones read refusal p1 p2 p3 p5 p6 p7 p8 claims label west north names lower tie ties least table listed some count run widest within mark points slots dart point direction beside far turned reversal stays line bits half has corner right left parts present degree inline named cells turn side border mask next plain last along big bent tops anchor kept2 kept3 among level marked first parent parents above depth holes drawn drawing fresh recover recovered alike same isDrawing at on between shared chase removed rest1 rest3 low high spliced smooth smooths smoothed moved close closes closed joined sized cleared outcome firstFailed levelTests drawTests sizeTests givenTests nameTests levelRefusal levelTables levelled five stated drawRefusal mapped used adjoin joinRefusal merged countRefusal deepened holed
+unfolding laws-open points-open masks-open levels-open drawings-open joins-open refusals-open sheets-open cases-open
 opened = tt
 
 no-hanging-ends : none joins ≡ true

@@ -1,5 +1,5 @@
 -- Enclosure and the two counts (the paper, "Enclosure and the two counts"), over the lines that are on and their sides.
---   first w i       == the dart that runs east along the top side of cell i
+--   topSide w i     == the dart that runs east along the top side of cell i
 --   parent w .. r   == the region round the outer piece of the region named r, the mark where no region has that name
 --   parents ..      == the table of parents, by name
 --   depth t r       == how many parents up from r the outside is
@@ -13,15 +13,15 @@ use Rattle.laws.specs.Table.{table, count}
 use Rattle.point_darts.specs.Dart.{mark, dart, point, reversal}
 use Rattle.paper.specs.Level.{tops}
 
-unfoldable pub first : ℕ → ℕ → ℕ
-first w i = dart (i + i / w) 0
+unfoldable pub topSide : ℕ → ℕ → ℕ
+topSide w i = dart (i + i / w) 0
 
 -- a name is in use where the top side of its first cell bears it
 unfoldable pub parent : ℕ → (ℕ → Bool) → (ℕ → ℕ) → List ℕ → ℕ → ℕ
 parent w on side t zero = mark
 parent w on side t (suc i) =
-    cond (on (first w i) && eqb (side (first w i)) (suc i))
-    (side (reversal w (dart (getD t (point (first w i)) 0) 0)))
+    cond (on (topSide w i) && eqb (side (topSide w i)) (suc i))
+    (side (reversal w (dart (getD t (point (topSide w i)) 0) 0)))
     mark
 
 unfoldable pub parents : ℕ → ℕ → (ℕ → Bool) → (ℕ → ℕ) → List ℕ

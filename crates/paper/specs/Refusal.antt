@@ -89,19 +89,19 @@ sizeTests w h k = (within w h, 1) ∷ (k, 4) ∷ []
 unfoldable pub givenTests : ℕ → ℕ → Tables → List (List ℕ) → List (Bool × ℕ)
 givenTests w h t ws = sizeTests w h (stated w h t ws) ++ (isDrawing w h t, 5) ∷ []
 
--- some region has the name r
-unfoldable pub used : Tables → ℕ → Bool
-used t r = on (t .parent) r
+-- some region has the name r, by the parents p
+unfoldable pub used : List ℕ → ℕ → Bool
+used p r = on p r
 
--- some dart has a on its right hand and b on its left
-unfoldable pub adjoin : ℕ → ℕ → Tables → ℕ → ℕ → Bool
-adjoin w h t a b = some (slots w h) (shared (t .side1) (reversal w) a b)
+-- some dart has a on its right hand and b on its left, by the level 1 sides s
+unfoldable pub adjoin : ℕ → ℕ → List ℕ → ℕ → ℕ → Bool
+adjoin w h s a b = some (slots w h) (shared s (reversal w) a b)
 
-unfoldable pub nameTests : Tables → ℕ → ℕ → List (Bool × ℕ)
-nameTests t a b = (not (eqb a 0 || eqb b 0), 6) ∷ (not (eqb a b), 7) ∷ (used t a && used t b, 8) ∷ []
+unfoldable pub nameTests : List ℕ → ℕ → ℕ → List (Bool × ℕ)
+nameTests p a b = (not (eqb a 0 || eqb b 0), 6) ∷ (not (eqb a b), 7) ∷ (used p a && used p b, 8) ∷ []
 
 unfoldable pub joinRefusal : ℕ → ℕ → Tables → ℕ → ℕ → List (List ℕ) → ℕ
-joinRefusal w h t a b ws = firstFailed (givenTests w h t ws ++ nameTests t a b ++ (adjoin w h t a b, 9) ∷ [])
+joinRefusal w h t a b ws = firstFailed (givenTests w h t ws ++ nameTests (t .parent) a b ++ (adjoin w h (t .side1) a b, 9) ∷ [])
 
 unfoldable pub merged : ℕ → ℕ → Tables → ℕ → ℕ → List (List ℕ) → Outcome
 merged w h t a b ws =
@@ -110,7 +110,7 @@ merged w h t a b ws =
     outcome r [] (five t) after ws
 
 unfoldable pub countRefusal : ℕ → ℕ → Tables → ℕ → List (List ℕ) → ℕ
-countRefusal w h t r ws = firstFailed (givenTests w h t ws ++ (eqb r 0 || used t r, 8) ∷ [])
+countRefusal w h t r ws = firstFailed (givenTests w h t ws ++ (eqb r 0 || used (t .parent) r, 8) ∷ [])
 
 unfoldable pub deepened : ℕ → ℕ → Tables → ℕ → List (List ℕ) → Outcome
 deepened w h t r ws = outcome (countRefusal w h t r ws) (depth (t .parent) r ∷ []) (five t) (five t) ws

@@ -22,7 +22,8 @@ use Rattle.point_darts.specs.Point.{degree}
 use Rattle.paper.specs.Level.{mask, big}
 use Rattle.paper.specs.Joining.{Links, at, on, low, high, moved, close, closes}
 use Rattle.paper_laws.proofs.Pair.{two-darts}
-use Rattle.paper_laws.proofs.Held.{Plane, Held, at-set, at-set-more, plane-below, small-degree, on-held, mask-kept, two-level, two-level-kept, small-two}
+use Rattle.paper_laws.proofs.Held.{Plane, Held, at-set, at-set-more, plane-below, on-held, mask-kept}
+use Rattle.paper_laws.proofs.Held.{small-degree, small-two, two-level, two-level-kept}
 
 -- what a point is treated by
 module _ (o : ℕ → Bool) (t : List ℕ) (l : Links) (p : ℕ) where
@@ -105,7 +106,7 @@ module _ {w h : ℕ} {x : Map} (s : Plane w h x) (room : slots w h ≤ mark) (t 
             instead k p (getD t p 0),
             rw (close-loop (x .on) t l p q (two-ends (s .chart) (c .loops) kp bp a (s .few) (c .held .over)) (rw (mask-kept s k p kp) at r))
                 record {
-                  held = moved-held k l p (u (x .on) t l p) (v (x .on) t l p) (e (x .on) t l p) (f (x .on) t l p) (c .held) (c .loops) kp bp a b;
+                  held = moved-held k l p _ _ _ _ (c .held) (c .loops) kp bp a b;
                   loops = close-loops (s .chart) (s .few) y (c .loops) kp bp a b;
                   settled = close-settled (s .chart) (s .few) y (c .loops) kp bp a (c .settled);
                 },

@@ -75,7 +75,10 @@ module _ (w h : ℕ) (n : List ℕ) where
       }
 
   -- the tables of reversals, next and side, read as those of the map
-  pub drawn-reads : Reads w h (sheet w h n) (record { next = drawn w h n .next1; other = table (slots w h) (reversal w) }) (drawn w h n .side1)
+  pub drawn-reads :
+      Reads w h (sheet w h n)
+      (record { next = drawn w h n .next1; other = table (slots w h) (reversal w) })
+      (drawn w h n .side1)
   unfolding sheet lines-map at
   drawn-reads =
       record {

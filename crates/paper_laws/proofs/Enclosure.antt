@@ -1,7 +1,7 @@
 -- Enclosure: the least point of a piece of lines, the region round the piece, and the parents of the regions.
 --   top w h on p    == the least point of the piece of p
 --   Head w h on t   == t is the least point of a piece that has a line
---   first w i       == the dart that runs east along the top side of cell i
+--   topSide w i     == the dart that runs east along the top side of cell i
 --   round w h n i   == the region round the piece at the north-west corner of cell i
 --   Used w h n r    == the name r is borne by its own cell
 --   parents ..      == the table of parents, by name: the region round the piece at the name's cell, or the mark
@@ -24,14 +24,14 @@ use Rattle.point_darts.proofs.Darts.{place, point-dart, direction-dart}
 use Rattle.point_darts.proofs.Points.{degree-bits, parts-false}
 use Rattle.paper.specs.Name.{names, named, cells}
 use Rattle.paper.specs.Level.{border, side, mask, tops}
-use Rattle.paper.specs.Enclosure.{first, parent, parents}
+use Rattle.paper.specs.Enclosure.{topSide, parent, parents}
 use Rattle.paper_laws.proofs.Name.{cell-below, name-range, name-own}
 use Rattle.paper_laws.proofs.Next.{Lines}
 use Rattle.paper_laws.proofs.Piece.{top-piece, tops-le, tops-tops, tops-west, tops-north}
 use Rattle.paper_laws.proofs.Sheet.{across, side-reversal, border-alone, border-line, border-lines}
 use Rattle.paper_laws.proofs.Marks.{cells-slots}
 use Rattle.paper_laws.proofs.Kept.{top, mask-some, lines-inside, mask-point, piece-masks}
-use Rattle.paper_laws.proofs.First.{every-cell, first-cell, named-cases, side-named, named-above, first-on}
+use Rattle.paper_laws.proofs.First.{every-cell, top-side-cell, named-cases, side-named, named-above, top-side-on}
 use Rattle.paper_laws.proofs.First.{used, own-used, other-unused}
 
 pub record Head (w h : ℕ) (on : ℕ → Bool) (t : ℕ) : Type 0 where
@@ -157,7 +157,7 @@ abbrev pub parentage : ℕ → ℕ → List ℕ → List ℕ
 parentage w h n = parents w h (border w h n) (side w h n)
 
 unfoldable pub round : ℕ → ℕ → List ℕ → ℕ → ℕ
-round w h n i = side w h n (reversal w (dart (top w h (border w h n) (point (first w i))) 0))
+round w h n i = side w h n (reversal w (dart (top w h (border w h n) (point (topSide w i))) 0))
 
 pub record Used (w h : ℕ) (n : List ℕ) (r : ℕ) : Type 0 where
   pub cell : ℕ
@@ -225,10 +225,10 @@ module _ (w h : ℕ) (s : List ℕ) where
           → round w h n (y * w + x) < suc (y * w + x)
       low x y a b e =
           let i : ℕ = y * w + x in
-          let p : ℕ = point (first w i) in
+          let p : ℕ = point (topSide w i) in
           let t : ℕ = top w h (border w h n) p in
-          let z = mask-some (border w h n) (first w i) p (first-on w h s i (cell-below w h x y a b) e) refl in
-          let q : p ≡ place w x y = ap point (first-cell w x y a) ∙ point-dart (place w x y) 0 (lit< tt) in
+          let z = mask-some (border w h n) (topSide w i) p (top-side-on w h s i (cell-below w h x y a b) e) refl in
+          let q : p ≡ place w x y = ap point (top-side-cell w x y a) ∙ point-dart (place w x y) 0 (lit< tt) in
           let r : t / (w + 1) ≤ y = round-row w h n p z x y (omega arith) q in
           rw (round-named w h n p z)
           (omega (arith, named-above w h s (t % (w + 1)) (t / (w + 1)), mul-le-mul-right w r))

@@ -1,6 +1,6 @@
 -- The cells by column and row, and the darts along their top sides.
 --   named w h n x y == the name of the cell north-west of the place in column x and row y; 0 off the sheet
---   first w i       == the dart that runs east along the top side of cell i
+--   topSide w i     == the dart that runs east along the top side of cell i
 --   every-cell      == a law of the cells by column and row is a law of every cell
 --   used w h s i    == the name suc i is in use: the top side of cell i is a line, and bears that name
 use mathlib.Core.Path.{_≡_, refl, sym, ap, _∙_}
@@ -20,7 +20,7 @@ use Rattle.point_darts.specs.Point.{corner, right}
 use Rattle.point_darts.proofs.Darts.{four, place, direction-below}
 use Rattle.paper.specs.Name.{names, named, cells}
 use Rattle.paper.specs.Level.{border, side}
-use Rattle.paper.specs.Enclosure.{first}
+use Rattle.paper.specs.Enclosure.{topSide}
 use Rattle.paper_laws.proofs.Name.{cell-below, name-range}
 use Rattle.paper_laws.proofs.Sheet.{side-east, across-east, differs-border}
 
@@ -35,9 +35,9 @@ module _ (w h : ℕ) where
       wide zero b = absurd (omega (arith, zero-mul h))
       wide (suc w) b = omega arith
 
-pub first-cell : (w x y : ℕ) → x < w → first w (y * w + x) ≡ dart (place w x y) 0
-unfolding first place
-first-cell w x y l =
+pub top-side-cell : (w x y : ℕ) → x < w → topSide w (y * w + x) ≡ dart (place w x y) 0
+unfolding topSide place
+top-side-cell w x y l =
     let z : 0 < w = omega arith in
     let e : (y * w + x) / w ≡ y = mul-add-div-right z y x ∙ ap (λ i. y + i) (div-eq-of-lt l) ∙ add-zero y in
     rw e (ap (λ p. dart p 0) (let e : y * w + x + y ≡ y * (w + 1) + x = omega arith in e))
@@ -70,9 +70,9 @@ module _ (w h : ℕ) (n : List ℕ) where
       (suc x, suc y, refl) (x, suc y, refl) (x, y, refl) (suc x, y, refl) (direction d) (direction-below d)
 
   -- the dart along the top side of a cell has the cell on its right
-  pub first-side : (i : ℕ) → i < w * h → side w h n (first w i) ≡ getD n i 0
-  first-side = every-cell w h (λ i. side w h n (first w i) ≡ getD n i 0)
-      (λ x y a b. rw (first-cell w x y a) (side-east w h n x y (let l : x ≤ w = omega arith in l) ∙ named-cell x y a b))
+  pub top-side-name : (i : ℕ) → i < w * h → side w h n (topSide w i) ≡ getD n i 0
+  top-side-name = every-cell w h (λ i. side w h n (topSide w i) ≡ getD n i 0)
+      (λ x y a b. rw (top-side-cell w x y a) (side-east w h n x y (let l : x ≤ w = omega arith in l) ∙ named-cell x y a b))
 
 -- The names of a sheet of labels s.
 module _ (w h : ℕ) (s : List ℕ) where
@@ -85,35 +85,35 @@ module _ (w h : ℕ) (s : List ℕ) where
       rw q (omega (arith, suc-mul b w)))
 
   -- the first cell of a region has another region, or the outside, to the north
-  pub first-on : (i : ℕ) → i < w * h → getD (names w h s) i 0 ≡ suc i → border w h (names w h s) (first w i) ≡ true
-  first-on =
+  pub top-side-on : (i : ℕ) → i < w * h → getD (names w h s) i 0 ≡ suc i → border w h (names w h s) (topSide w i) ≡ true
+  top-side-on =
       let n = names w h s in
-      every-cell w h (λ i. getD n i 0 ≡ suc i → border w h n (first w i) ≡ true)
+      every-cell w h (λ i. getD n i 0 ≡ suc i → border w h n (topSide w i) ≡ true)
       (λ x y a b e.
       let l : x ≤ w = omega arith in
-      rw (first-cell w x y a)
+      rw (top-side-cell w x y a)
       (differs-border w h n (dart (place w x y) 0)
       (λ q.
       let u = sym (side-east w h n x y l ∙ named-cell w h n x y a b ∙ e) ∙ q ∙ across-east w h n x y l in
       omega (arith, named-above (suc x) y))))
 
   abbrev pub used : ℕ → Bool
-  used i = border w h (names w h s) (first w i) && eqb (side w h (names w h s) (first w i)) (suc i)
+  used i = border w h (names w h s) (topSide w i) && eqb (side w h (names w h s) (topSide w i)) (suc i)
 
   -- a name is in use exactly where it is its cell's own
   module _ (i : ℕ) (b : i < w * h) where
-    pub first-own : getD (names w h s) i 0 ≡ suc i → side w h (names w h s) (first w i) ≡ suc i
-    first-own e = first-side w h (names w h s) i b ∙ e
+    pub top-side-own : getD (names w h s) i 0 ≡ suc i → side w h (names w h s) (topSide w i) ≡ suc i
+    top-side-own e = top-side-name w h (names w h s) i b ∙ e
 
     pub own-used : getD (names w h s) i 0 ≡ suc i → used i ≡ true
-    own-used e = and-true (first-on i b e) (eq-eqb _ _ (first-own e))
+    own-used e = and-true (top-side-on i b e) (eq-eqb _ _ (top-side-own e))
 
     pub used-own : used i ≡ true → getD (names w h s) i 0 ≡ suc i
     used-own e =
         let n = names w h s in
-        sym (first-side w h n i b)
-        ∙ eqb-true (side w h n (first w i)) (suc i)
-        (and-right (border w h n (first w i)) (eqb (side w h n (first w i)) (suc i)) e)
+        sym (top-side-name w h n i b)
+        ∙ eqb-true (side w h n (topSide w i)) (suc i)
+        (and-right (border w h n (topSide w i)) (eqb (side w h n (topSide w i)) (suc i)) e)
 
     pub other-unused : getD (names w h s) i 0 ≢ suc i → used i ≡ false
     other-unused f = go (used i) refl

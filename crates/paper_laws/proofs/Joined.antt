@@ -26,7 +26,7 @@ use Rattle.point_darts.specs.Dart.{mark, slots, points, dart, point, reversal}
 use Rattle.point_darts.specs.Point.{degree}
 use Rattle.point_darts.proofs.Points.{degree-bits}
 use Rattle.paper.specs.Level.{side, border, mask, next, plain, level, big, tops, marked}
-use Rattle.paper.specs.Enclosure.{first, parent, parents}
+use Rattle.paper.specs.Enclosure.{topSide, parent, parents}
 use Rattle.paper.specs.Drawing.{Tables, drawn}
 use Rattle.paper.specs.Joining.{Links, at, on, shared, removed, rest1, rest3, smooths, smoothed, closes, closed, joined}
 use Rattle.paper_laws.proofs.Sheet.{lines-map, sheet, sheet-chart, sheet-few, sheet-colours}
@@ -82,18 +82,18 @@ module _ (w h : ℕ) (n : List ℕ) where
       → parent w (border w h n) s (tops w h (border w h n)) r ≡ parent w (border w h n) t (tops w h (border w h n)) r
   unfolding parent
   parent-agree s t e zero = refl
-  parent-agree s t e (suc i) = go (border w h n (first w i)) refl
+  parent-agree s t e (suc i) = go (border w h n (topSide w i)) refl
     where
       o : ℕ → Bool
       o = border w h n
 
-      go : (b : Bool) → o (first w i) ≡ b
+      go : (b : Bool) → o (topSide w i) ≡ b
           → parent w (border w h n) s (tops w h (border w h n)) (suc i)
           ≡ parent w (border w h n) t (tops w h (border w h n)) (suc i)
       go true q =
-          let p = point (first w i) in
-          let g = head-top w h o (border-lines w h n) p (mask-some o (first w i) p q refl) in
-          rw (q, e (first w i) q, e (reversal w (dart (top w h o p) 0)) (border-back w h n (dart (top w h o p) 0) (head-east w h n g)))
+          let p = point (topSide w i) in
+          let g = head-top w h o (border-lines w h n) p (mask-some o (topSide w i) p q refl) in
+          rw (q, e (topSide w i) q, e (reversal w (dart (top w h o p) 0)) (border-back w h n (dart (top w h o p) 0) (head-east w h n g)))
       go false q = rw q
 
   parents-agree : (s t : ℕ → ℕ) → ((d : ℕ) → border w h n d ≡ true → s d ≡ t d)

@@ -14,10 +14,10 @@ pub mod IsDrawing
 pub mod Joined
 pub mod Kept
 pub mod Marks
+pub mod Midway
 pub mod Name
 pub mod Neighbour
 pub mod Next
-pub mod Outcome
 pub mod Pair
 pub mod Parity
 pub mod Piece

@@ -26,7 +26,7 @@ use Rattle.point_darts.proofs.Darts.{place, point-dart}
 use Rattle.paper.specs.Name.{names, named, cells}
 use Rattle.paper.specs.Level.{border}
 use Rattle.paper_laws.proofs.Name.{Beside, cell-below, chain-name, name-chain}
-use Rattle.paper_laws.proofs.First.{every-cell, first-cell, named-cell, named-cases, first-on}
+use Rattle.paper_laws.proofs.First.{every-cell, top-side-cell, named-cell, named-cases, top-side-on}
 use Rattle.paper_laws.proofs.Sheet.{border-lines}
 use Rattle.paper_laws.proofs.Kept.{top, mask-some}
 use Rattle.paper_laws.proofs.Enclosure.{Head, head-top, head-side, round, round-below}
@@ -124,7 +124,7 @@ module _ (w h : ℕ) (s : List ℕ) (x y : ℕ) (a : x < w) (b : y < h)
   t = top w h (border w h l) (place w x y)
 
   first-line : border w h l (dart (place w x y) 0) ≡ true
-  first-line = rw (first-cell w x y a) at (first-on w h s i (cell-below w h x y a b) own)
+  first-line = rw (top-side-cell w x y a) at (top-side-on w h s i (cell-below w h x y a b) own)
 
   first-head : Head w h (border w h l) t
   first-head =
@@ -133,7 +133,7 @@ module _ (w h : ℕ) (s : List ℕ) (x y : ℕ) (a : x < w) (b : y < h)
 
   round-nook : round w h l i ≡ nook w h l t
   unfolding round corner cells
-  round-nook = rw (first-cell w x y a, point-dart (place w x y) 0 (lit< tt)) (head-side w h l first-head)
+  round-nook = rw (top-side-cell w x y a, point-dart (place w x y) 0 (lit< tt)) (head-side w h l first-head)
 
   other : suc i ≢ nook w h l t
   other e = omega (arith, round-below w h s i (cell-below w h x y a b) own, round-nook)

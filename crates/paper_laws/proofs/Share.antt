@@ -15,7 +15,8 @@ use Rattle.paper.specs.Level.{side, border}
 use Rattle.paper_laws.proofs.Name.{Beside, beside-row, beside-column}
 use Rattle.paper_laws.proofs.Cells.{named-east, named-south}
 use Rattle.paper_laws.proofs.First.{named-cell}
-use Rattle.paper_laws.proofs.Sheet.{across, side-east, side-south, side-west, side-north, across-east, across-south, across-west, across-north, side-reversal, border-line}
+use Rattle.paper_laws.proofs.Sheet.{side-east, side-south, side-west, side-north, side-reversal, border-line}
+use Rattle.paper_laws.proofs.Sheet.{across, across-east, across-south, across-west, across-north}
 
 pub record Shore (w h : ℕ) (n : List ℕ) (p q : ℕ) : Type 0 where
   pub one : ℕ

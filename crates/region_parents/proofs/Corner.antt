@@ -15,24 +15,24 @@ use borrow.Author.Tests.{eq-eqb, ne-eqb}
 use Rattle.laws.specs.Table.{table}
 use Rattle.point_darts.specs.Dart.{mark, points, dart, point, beside, turned, reversal}
 use Rattle.point_darts.proofs.Darts.{point-dart, reversal-dart, place, place-below}
-use Rattle.paper.specs.Enclosure.{first, parent}
+use Rattle.paper.specs.Enclosure.{topSide, parent}
 use Rattle.paper.specs.Joining.{at, on}
-use Rattle.paper_laws.proofs.First.{every-cell, first-cell}
+use Rattle.paper_laws.proofs.First.{every-cell, top-side-cell}
 use Rattle.laws.proofs.Column.{column-on, column-back, row-on, row-down}
 use Rattle.table_entries.proofs.Entries.{on-entry}
 use Rattle.table_entries.proofs.Half.{Half, half-more, half-all}
 
 -- a cell's corner
-pub first-corner : (w i : ℕ) → point (first w i) ≡ i + i / w
-unfolding first
-first-corner w i = point-dart (i + i / w) 0 (lit< tt)
+pub top-side-corner : (w i : ℕ) → point (topSide w i) ≡ i + i / w
+unfolding topSide
+top-side-corner w i = point-dart (i + i / w) 0 (lit< tt)
 
 pub corner-below : (w h i : ℕ) → i < w * h → i + i / w < points w h
 corner-below w h =
     every-cell w h (λ i. i + i / w < points w h)
     (λ x y a b.
     let e : (y * w + x) + (y * w + x) / w ≡ place w x y =
-    sym (first-corner w (y * w + x)) ∙ ap point (first-cell w x y a) ∙ point-dart (place w x y) 0 (lit< tt) in
+    sym (top-side-corner w (y * w + x)) ∙ ap point (top-side-cell w x y a) ∙ point-dart (place w x y) 0 (lit< tt) in
     rw e (place-below w h x y (omega arith) (omega arith)))
 
 -- the parent of a name, from the corner k of its first cell
@@ -87,8 +87,8 @@ module _ (w : ℕ) (o : ℕ → Bool) (d : ℕ → ℕ) (t : List ℕ) where
 
   parent-name : (i k r : ℕ) → k ≡ i + i / w
       → r ≡ cond (o (dart k 0) && eqb (d (dart k 0)) (i + 1)) (d (reversal w (dart (getD t k 0) 0))) mark → r ≡ f (i + 1)
-  unfolding parent first
-  parent-name i k r c e = rw (add-one, first-corner) (rw (c, add-one) at e)
+  unfolding parent topSide
+  parent-name i k r c e = rw (add-one, top-side-corner) (rw (c, add-one) at e)
 
   -- a name more, in the row and at its end
   module _ (s u : List ℕ) (i x k : ℕ) (pos : 0 < w) (p : Parented w f s u i x k) (b : i + 1 < length s) (r : ℕ)

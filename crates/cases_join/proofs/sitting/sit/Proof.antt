@@ -12,6 +12,16 @@ Inv-loop size lengths pace names₀ slots joined₀ done₀ number₀ i₀ names
 abbrev μ-loop : tie.MeasureT-loop
 μ-loop size lengths pace names₀ slots joined₀ done₀ number₀ i₀ names joined done number i = slots - i
 
+-- From the test at the end of a turn that joins back to the count of joins, to the turn and to the start.
+abbrev counted : tie.After-is-due Inv-loop μ-loop → tie.After-counted-on Inv-loop μ-loop
+counted c = c .before .before .before
+
+abbrev turn : tie.After-counted-on Inv-loop μ-loop → tie.At-loop Inv-loop μ-loop
+turn c = c .before .before .before .before .before .before .before .before .before .before .before .before
+
+abbrev start : tie.At-loop Inv-loop μ-loop → tie.Start Inv-loop μ-loop
+start c = c .before .before .before
+
 slots-requires : tie.Need-slots-requires Inv-loop μ-loop
 slots-requires c κs = tt
 
@@ -43,15 +53,16 @@ is-due-requires : tie.Need-is-due-requires Inv-loop μ-loop
 is-due-requires c κs = tt
 
 show-standing-requires : tie.Need-show-standing-requires Inv-loop μ-loop
-show-standing-requires c κs = c .before .before .before .before .before .before .before .before .before .before .before .before .before .before .before .before .before .before .before .before .pre
+show-standing-requires c κs = start (turn (counted (c .before .before))) .pre
 
 loop-less : tie.Need-loop-less Inv-loop μ-loop
 loop-less c = search needs
 
 loop-again : tie.Need-loop-again Inv-loop μ-loop
 loop-again c =
-    let d = c .before .before .before .before .before .before .counted-on in
-    let r = c .before .before .before .before .before .before .before .before .before .before .before .before .before .before .before .before .before .before .loop .inv in
+    let k = counted (c .before .before .before) in
+    let d = k .counted-on in
+    let r = turn k .loop .inv in
     (d .kept .1 .1 .0 ∙ r .0, omega (arith, d .ensures, r .1))
 
 loop-less-2 : tie.Need-loop-less-2 Inv-loop μ-loop
@@ -59,8 +70,9 @@ loop-less-2 c = search needs
 
 loop-again-2 : tie.Need-loop-again-2 Inv-loop μ-loop
 loop-again-2 c =
-    let d = c .before .before .before .before .counted-on in
-    let r = c .before .before .before .before .before .before .before .before .before .before .before .before .before .before .before .before .loop .inv in
+    let k = counted (c .before) in
+    let d = k .counted-on in
+    let r = turn k .loop .inv in
     (d .kept .1 .1 .0 ∙ r .0, omega (arith, d .ensures, r .1))
 
 loop-less-3 : tie.Need-loop-less-3 Inv-loop μ-loop

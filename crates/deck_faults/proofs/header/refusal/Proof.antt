@@ -7,7 +7,7 @@ use Rattle.deck_card.specs.Card.{columns, places, long}
 use Rattle.deck_card.proofs.Parts.{whole-is}
 use Rattle.deck_card.proofs.Headings.{heading-fits, heading-bytes}
 use Rattle.deck_faults.specs.Fault.{header}
-use Rattle.deck_faults.proofs.Frames.{headed-is, header-framed, header-is, frame-none}
+use Rattle.deck_faults.proofs.Forms.{headed-is, header-formed, header-is, form-none}
 use Rattle.deck_faults.proofs.header.refusal.Statement.{statement}
 use Rattle.deck_faults.proofs.header.refusal.Tie as tie
 
@@ -15,7 +15,7 @@ refusal-requires : tie.Need-refusal-requires
 refusal-requires c κs = search needs
 
 returns : tie.Need-returns
-returns c = rw (c .before .refusal .ensures) (header-framed _ (rw (← (c .before .refusal .ensures)) (c .if1 .taken)))
+returns c = rw (c .before .refusal .ensures) (header-formed _ (rw (← (c .before .refusal .ensures)) (c .if1 .taken)))
 
 width-requires : tie.Need-width-requires
 width-requires c κs = search needs
@@ -31,8 +31,8 @@ returns-2 c =
     let at-height = c .before .before in
     let at-width = at-height .before in
     let at-if1 = at-width .before in
-    let at-frame = at-if1 .before in
-    let e = sym (at-frame .refusal .ensures) ∙ at-if1 .if1 .left in
+    let at-form = at-if1 .before in
+    let e = sym (at-form .refusal .ensures) ∙ at-if1 .if1 .left in
     simp (
       header-is _ e,
       headed-is,
@@ -54,9 +54,9 @@ agrees-requires c κs =
     let at-height = c .before .before .before .before in
     let at-width = at-height .before in
     let at-if1 = at-width .before in
-    let at-frame = at-if1 .before in
-    let s = at-frame .before .before in
-    let f = frame-none 1 (s .args .card .now) (sym (at-frame .refusal .ensures) ∙ at-if1 .if1 .left) in
+    let at-form = at-if1 .before in
+    let s = at-form .before .before in
+    let f = form-none 1 (s .args .card .now) (sym (at-form .refusal .ensures) ∙ at-if1 .if1 .left) in
     let n = whole-is (s .args .card .now) (f .whole-is) .length-is in
     let e = c .before .heading .ensures in
     let b = heading-fits (at-width .width .result) (at-height .height .result) in

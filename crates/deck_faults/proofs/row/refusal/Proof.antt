@@ -8,7 +8,7 @@ use Rattle.deck_card.specs.Card.{columns, places, long, blank, lowest, highest,
 use Rattle.deck_card.proofs.Parts.{measured-is, part-held, whole-is}
 use Rattle.deck_card.proofs.Table.{part-slice}
 use Rattle.deck_faults.specs.Fault.{row}
-use Rattle.deck_faults.proofs.Frames.{row-framed, row-is, frame-none}
+use Rattle.deck_faults.proofs.Forms.{row-formed, row-is, form-none}
 use Rattle.deck_faults.proofs.row.refusal.Statement.{statement}
 use Rattle.deck_faults.proofs.row.refusal.Tie as tie
 
@@ -16,7 +16,7 @@ refusal-requires : tie.Need-refusal-requires
 refusal-requires c κs = search needs
 
 returns : tie.Need-returns
-returns c = rw (c .before .refusal .ensures) (row-framed _ _ _ (rw (← (c .before .refusal .ensures)) (c .if1 .taken)))
+returns c = rw (c .before .refusal .ensures) (row-formed _ _ _ (rw (← (c .before .refusal .ensures)) (c .if1 .taken)))
 
 part-requires : tie.Need-part-requires
 part-requires c κs = search needs
@@ -32,11 +32,11 @@ cells-decide : (c : tie.After-all-between)
 unfolding lowest highest visible
 cells-decide c =
     let at-if1 = c .before .before in
-    let at-frame = at-if1 .before in
-    let start = at-frame .before .before in
+    let at-form = at-if1 .before in
+    let start = at-form .before .before in
     let s = start .args in
-    let e = sym (at-frame .refusal .ensures) ∙ at-if1 .if1 .left in
-    let w = frame-none (s .number) (s .card .now) e .whole-is in
+    let e = sym (at-form .refusal .ensures) ∙ at-if1 .if1 .left in
+    let w = form-none (s .number) (s .card .now) e .whole-is in
     let p = c .before .part .ensures ∙ part-held (s .cells) (s .card .now) (start .pre) w in
     simp (row-is (s .cells) (s .number) (s .card .now) e, ← p, ← (c .all-between .ensures))
 
@@ -59,10 +59,10 @@ part-all-between-end : tie.Need-part-all-between-end
 unfolding columns places long
 part-all-between-end c =
     let at-if1 = c .before .before .before in
-    let at-frame = at-if1 .before in
-    let start = at-frame .before .before in
+    let at-form = at-if1 .before in
+    let start = at-form .before .before in
     let s = start .args in
-    let f = frame-none (s .number) (s .card .now) (sym (at-frame .refusal .ensures) ∙ at-if1 .if1 .left) in
+    let f = form-none (s .number) (s .card .now) (sym (at-form .refusal .ensures) ∙ at-if1 .if1 .left) in
     let n = whole-is (s .card .now) (f .whole-is) .length-is in
     omega arith
 

@@ -4,7 +4,7 @@ use borrow.Author.Needs.{needs}
 use Rattle.deck_card.specs.Card.{columns, places, long}
 use Rattle.deck_card.proofs.Table.{rest-all}
 use Rattle.deck_faults.specs.Fault.{header}
-use Rattle.deck_faults.proofs.Frames.{header-within}
+use Rattle.deck_faults.proofs.Forms.{header-within}
 use Rattle.deck_reading.proofs.Answers.{judged-stop, judged-go, header-whole}
 use Rattle.deck_reading.proofs.judge.judged.Statement.{statement}
 use Rattle.deck_reading.proofs.judge.judged.Tie as tie

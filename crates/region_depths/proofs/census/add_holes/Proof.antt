@@ -1,6 +1,7 @@
 use mathlib.Core.Path.{sym, _∙_}
-use Prim.Native.Nat.{_-_, _≤_}
+use Prim.Native.Nat.{_-_, _≤_, _<_}
 use native.Mathlib.Omega.{arith}
+use lib.ListN.{length, getD}
 use Rattle.point_darts.specs.Dart.{mark}
 use Rattle.region_depths.specs.Census.{Tallied}
 use Rattle.region_depths.proofs.Tally.{parent-below, tallied-all, tallied-skip, tallied-fits, tallied-child}
@@ -12,6 +13,20 @@ Inv-loop parent tally₀ n i₀ tally i = Tallied parent i tally × (i ≤ n)
 
 abbrev μ-loop : tie.MeasureT-loop
 μ-loop parent tally₀ n i₀ tally i = n - i
+
+-- From a name with a parent back to the loop and to the start, and what stands there: the parent is a name of the table.
+abbrev at-loop : tie.Then1 Inv-loop μ-loop → tie.At-loop Inv-loop μ-loop
+at-loop c = c .before .before .before
+
+abbrev start : tie.Then1 Inv-loop μ-loop → tie.Start Inv-loop μ-loop
+start c = at-loop c .before
+
+up-below : (c : tie.Then1 Inv-loop μ-loop)
+    → getD (start c .args .parent .now) (at-loop c .loop .i) 0 < length (start c .args .parent .now)
+unfolding mark
+up-below c =
+    let q = start c .pre in
+    parent-below _ _ _ (at-loop c .loop .inv .0) (c .before .before .loop-test .taken) (q .0) (q .1) (c .if1 .taken)
 
 loop-holds : tie.Need-loop-holds Inv-loop μ-loop
 loop-holds c = (c .pre .2, omega arith)
@@ -27,37 +42,45 @@ add-i c = omega arith
 
 cast-tally : tie.Need-cast-tally Inv-loop μ-loop
 unfolding mark
-cast-tally c = let q = c .before .before .before .before .pre in omega (arith, parent-below _ _ _ (c .before .before .before .loop .inv .0) (c .before .before .loop-test .taken) (q .0) (q .1) (c .if1 .taken), q .1)
+cast-tally c = omega (arith, up-below c, start c .pre .1)
 
 mul-tally : tie.Need-mul-tally Inv-loop μ-loop
 unfolding mark
-mul-tally c = let q = c .before .before .before .before .pre in omega (arith, parent-below _ _ _ (c .before .before .before .loop .inv .0) (c .before .before .loop-test .taken) (q .0) (q .1) (c .if1 .taken), q .1)
+mul-tally c = omega (arith, up-below c, start c .pre .1)
 
 slice-read-tally : tie.Need-slice-read-tally Inv-loop μ-loop
-unfolding mark
-slice-read-tally c = let q = c .before .before .before .before .before .pre in let y = c .before .before .before .before .loop .inv .0 in omega (arith, y .long, parent-below _ _ _ y (c .before .before .before .loop-test .taken) (q .0) (q .1) (c .before .if1 .taken))
+slice-read-tally c = omega (arith, up-below (c .before), at-loop (c .before) .loop .inv .0 .long)
 
 add-tally : tie.Need-add-tally Inv-loop μ-loop
 unfolding mark
-add-tally c = let q = c .before .before .before .before .before .pre in omega (arith, tallied-fits _ _ _ (c .before .before .before .before .loop .inv .0) (c .before .before .before .loop-test .taken) (q .0) (q .1) (c .before .if1 .taken))
+add-tally c =
+    let d = c .before in
+    let q = start d .pre in
+    let t = d .before .before .loop-test .taken in
+    omega (arith, tallied-fits _ _ _ (at-loop d .loop .inv .0) t (q .0) (q .1) (d .if1 .taken))
 
 slice-write-tally : tie.Need-slice-write-tally Inv-loop μ-loop
-unfolding mark
-slice-write-tally c = let q = c .before .before .before .before .before .pre in let y = c .before .before .before .before .loop .inv .0 in omega (arith, y .long, parent-below _ _ _ y (c .before .before .before .loop-test .taken) (q .0) (q .1) (c .before .if1 .taken))
+slice-write-tally c = omega (arith, up-below (c .before), at-loop (c .before) .loop .inv .0 .long)
 
 loop-less : tie.Need-loop-less Inv-loop μ-loop
 loop-less c = omega arith
 
 loop-again : tie.Need-loop-again Inv-loop μ-loop
 unfolding mark
-loop-again c = let q = c .before .before .before .before .before .pre in (tallied-child _ _ _ (c .before .before .before .before .loop .inv .0) (c .before .before .before .loop-test .taken) (q .0) (q .1) (c .before .if1 .taken), omega arith)
+loop-again c =
+    let d = c .before in
+    let q = start d .pre in
+    let t = d .before .before .loop-test .taken in
+    (tallied-child _ _ _ (at-loop d .loop .inv .0) t (q .0) (q .1) (d .if1 .taken), omega arith)
 
 loop-less-2 : tie.Need-loop-less-2 Inv-loop μ-loop
 loop-less-2 c = omega arith
 
 loop-again-2 : tie.Need-loop-again-2 Inv-loop μ-loop
 unfolding mark
-loop-again-2 c = (tallied-skip _ _ _ (c .before .before .before .loop .inv .0) (c .before .before .loop-test .taken) (c .before .before .before .before .pre .1) (c .if1 .left), omega arith)
+loop-again-2 c =
+    let l = c .before .before .before in
+    (tallied-skip _ _ _ (l .loop .inv .0) (c .before .before .loop-test .taken) (l .before .pre .1) (c .if1 .left), omega arith)
 
 same-length : tie.Need-same-length Inv-loop μ-loop
 same-length c = c .before .loop .inv .0 .long ∙ sym (c .before .before .pre .2 .long)

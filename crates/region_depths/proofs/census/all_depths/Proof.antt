@@ -23,7 +23,10 @@ loop-holds : tie.Need-loop-holds Inv-loop μ-loop
 loop-holds c = filled-none _ _ _ (c .before .before .pre .2)
 
 deeper-requires : tie.Need-deeper-requires Inv-loop μ-loop
-deeper-requires c κs = let q = c .before .before .before .before .before .pre in let l = c .before .before .loop .inv in record { falls = q .0; fits = q .1; below = c .before .loop-test .taken; long = l .long; entry = l .done }
+deeper-requires c κs =
+    let q = c .before .before .before .before .before .pre in
+    let l = c .before .before .loop .inv in
+    record { falls = q .0; fits = q .1; below = c .before .loop-test .taken; long = l .long; entry = l .done }
 
 cast-depths : tie.Need-cast-depths Inv-loop μ-loop
 unfolding mark

@@ -30,7 +30,11 @@ depth-shared-slice-read-up t c = omega arith
 
 depth-depth-requires :
     (t : ℕ) → depth-lts.Need-depth-requires (depth-below t, depth.Post) (depth-at t) depth.Post
-depth-depth-requires t c κs = let b = c .before .before .before in let q = b .pre .1 in (rw (← (b .pre .0)) (c .if1 .taken), (q .0, omega (arith, q .1), climb-known _ (q .0) _ (q .1) (q .2) (c .if1 .taken)))
+depth-depth-requires t c κs =
+    let b = c .before .before .before in
+    let q = b .pre .1 in
+    let k = climb-known _ (q .0) _ (q .1) (q .2) (c .if1 .taken) in
+    (rw (← (b .pre .0)) (c .if1 .taken), (q .0, omega (arith, q .1), k))
 
 depth-add-result :
     (t : ℕ) → depth-lts.Need-add-result (depth-below t, depth.Post) (depth-at t) depth.Post
@@ -38,11 +42,17 @@ depth-add-result t c = omega arith
 
 depth-returns :
     (t : ℕ) → depth-lts.Need-returns (depth-below t, depth.Post) (depth-at t) depth.Post
-depth-returns t c = let b = c .before .before .before .before in let q = b .pre .1 in (ap (λ k. k + 1) (c .depth .ensures .0) ∙ climb-up _ (q .0) _ (q .1) (q .2) (c .before .if1 .taken), omega arith)
+depth-returns t c =
+    let b = c .before .before .before .before in
+    let q = b .pre .1 in
+    let u = climb-up _ (q .0) _ (q .1) (q .2) (c .before .if1 .taken) in
+    (ap (λ k. k + 1) (c .depth .ensures .0) ∙ u, omega arith)
 
 depth-returns-2 :
     (t : ℕ) → depth-lts.Need-returns-2 (depth-below t, depth.Post) (depth-at t) depth.Post
-depth-returns-2 t c = let b = c .before .before .before in let q = b .pre .1 in (climb-ends _ (q .0) _ (q .1) (q .2) (c .if1 .left), zero-le)
+depth-returns-2 t c =
+    let q = c .before .before .before .pre .1 in
+    (climb-ends _ (q .0) _ (q .1) (q .2) (c .if1 .left), zero-le)
 
 pub +depth-spec : {M : Type 1} → statement M
 +depth-spec =

@@ -28,22 +28,33 @@ add-i c = omega arith
 
 add-count : tie.Need-add-count Inv-loop μ-loop
 unfolding mark
-add-count c = omega (arith, count-le (childOf (c .before .before .before .before .args .parent .now) (c .before .before .before .before .args .name)) (c .before .before .before .loop .i))
+add-count c =
+    let l = c .before .before .before in
+    let a = l .before .args in
+    omega (arith, count-le (childOf (a .parent .now) (a .name)) (l .loop .i))
 
 loop-less : tie.Need-loop-less Inv-loop μ-loop
 loop-less c = omega arith
 
 loop-again : tie.Need-loop-again Inv-loop μ-loop
-loop-again c = (holes-child _ _ _ _ (c .before .before .loop-test .taken) (c .before .before .before .loop .inv .0) (c .if1 .taken), omega arith)
+loop-again c =
+    let l = c .before .before in
+    (holes-child _ _ _ _ (l .loop-test .taken) (l .before .loop .inv .0) (c .if1 .taken), omega arith)
 
 loop-less-2 : tie.Need-loop-less-2 Inv-loop μ-loop
 loop-less-2 c = omega arith
 
 loop-again-2 : tie.Need-loop-again-2 Inv-loop μ-loop
-loop-again-2 c = (holes-other _ _ _ _ (c .before .before .loop-test .taken) (c .before .before .before .loop .inv .0) (c .if1 .left), omega arith)
+loop-again-2 c =
+    let l = c .before .before in
+    (holes-other _ _ _ _ (l .loop-test .taken) (l .before .loop .inv .0) (c .if1 .left), omega arith)
 
 returns : tie.Need-returns Inv-loop μ-loop
-returns c = let l = c .before .loop in let e : l .i ≡ length (c .before .before .args .parent .now) = omega arith in rw (← (holes-all (c .before .before .args .parent .now) (c .before .before .args .name)), ← e) (l .inv .0)
+returns c =
+    let l = c .before .loop in
+    let a = c .before .before .args in
+    let e : l .i ≡ length (a .parent .now) = omega arith in
+    rw (← (holes-all (a .parent .now) (a .name)), ← e) (l .inv .0)
 
 pub holes-spec : {M : Type 1} → statement M
 holes-spec =

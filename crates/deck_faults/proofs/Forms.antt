@@ -1,5 +1,5 @@
 -- What a card is refused for.
---   frame           == the refusals that do not look at its content
+--   form            == the refusals that do not look at its content
 --   header, row     == those of a header and of a row's card
 use mathlib.Core.Path.{_≡_, refl, sym, _∙_}
 use mathlib.Core.Bool.{Bool, true, false, cond, _&&_}
@@ -15,22 +15,22 @@ use Rattle.deck_card.specs.Card.{columns, places, blank, every, same, between, 
 use Rattle.deck_card.specs.Layout.{heading}
 use Rattle.deck_card.proofs.Cards.{card-columns, card-number}
 use Rattle.deck_card.proofs.Headings.{heading-fits}
-use Rattle.deck_faults.specs.Fault.{first, numbered, frame, width, height, headed, header, row}
+use Rattle.deck_faults.specs.Fault.{orElse, numbered, form, width, height, headed, header, row}
 
--- The first of two refusals.
-pub first-some : (a b : ℕ) → (a ≡ 0 → ⊥) → a ≡ first a b
-unfolding first
-first-some zero b n = absurd (n refl)
-first-some (suc a) b n = refl
+-- A refusal, or another where it is none.
+pub or-else-some : (a b : ℕ) → (a ≡ 0 → ⊥) → a ≡ orElse a b
+unfolding orElse
+or-else-some zero b n = absurd (n refl)
+or-else-some (suc a) b n = refl
 
-pub first-none : (a b : ℕ) → a ≡ 0 → first a b ≡ b
-unfolding first
-first-none a b e = rw e
+pub or-else-none : (a b : ℕ) → a ≡ 0 → orElse a b ≡ b
+unfolding orElse
+or-else-none a b e = rw e
 
-pub first-zero : (a b : ℕ) → first a b ≡ 0 → a ≡ 0
-unfolding first
-first-zero zero b e = refl
-first-zero (suc a) b e = e
+pub or-else-zero : (a b : ℕ) → orElse a b ≡ 0 → a ≡ 0
+unfolding orElse
+or-else-zero zero b e = refl
+or-else-zero (suc a) b e = e
 
 module _ (k : ℕ) (c : List ℕ) where
   -- its number, against that of a card that is numbered so
@@ -46,21 +46,21 @@ module _ (c : List ℕ) where
   unfolding headed
   headed-is = rw (card-columns 1 (heading (width c) (height c)) (heading-fits _ _))
 
-  pub header-framed : (frame 1 c ≡ 0 → ⊥) → frame 1 c ≡ header c
+  pub header-formed : (form 1 c ≡ 0 → ⊥) → form 1 c ≡ header c
   unfolding header
-  header-framed n = first-some _ _ n
+  header-formed n = or-else-some _ _ n
 
-  pub header-is : frame 1 c ≡ 0 → header c ≡ cond (headed c) 0 21
+  pub header-is : form 1 c ≡ 0 → header c ≡ cond (headed c) 0 21
   unfolding header
-  header-is e = first-none _ _ e
+  header-is e = or-else-none _ _ e
 
   -- a header that is not refused
-  pub header-frame : header c ≡ 0 → frame 1 c ≡ 0
+  pub header-form : header c ≡ 0 → form 1 c ≡ 0
   unfolding header
-  header-frame e = first-zero _ _ e
+  header-form e = or-else-zero _ _ e
 
   pub header-headed : header c ≡ 0 → headed c ≡ true
-  header-headed e = go (headed c) (sym (header-is (header-frame e)) ∙ e)
+  header-headed e = go (headed c) (sym (header-is (header-form e)) ∙ e)
     where
       go : (b : Bool) → _≡_ {A = ℕ} (cond b 0 21) 0 → b ≡ true
       go true h = refl
@@ -72,30 +72,30 @@ module _ (c : List ℕ) where
 
 -- The card numbered k, with w cells.
 module _ (w k : ℕ) (c : List ℕ) where
-  pub row-framed : (frame k c ≡ 0 → ⊥) → frame k c ≡ row w k c
+  pub row-formed : (form k c ≡ 0 → ⊥) → form k c ≡ row w k c
   unfolding row
-  row-framed n = first-some _ _ n
+  row-formed n = or-else-some _ _ n
 
-  pub row-frame : row w k c ≡ 0 → frame k c ≡ 0
+  pub row-form : row w k c ≡ 0 → form k c ≡ 0
   unfolding row
-  row-frame e = first-zero _ _ e
+  row-form e = or-else-zero _ _ e
 
-  pub row-is : frame k c ≡ 0
+  pub row-is : form k c ≡ 0
       → row w k c ≡ cond (every visible (take w c)) (cond (every (between blank blank) (slice w columns c)) 0 24) 23
   unfolding row
-  row-is e = first-none _ _ e
+  row-is e = or-else-none _ _ e
 
--- A card whose frame is not refused.
-pub record Framed (k : ℕ) (c : List ℕ) : Type 0 where
+-- A card whose form is not refused.
+pub record Formed (k : ℕ) (c : List ℕ) : Type 0 where
   pub whole-is : whole c ≡ true
   pub number-is : numbered k c ≡ true
 
-pub frame-none : (k : ℕ) (c : List ℕ) → frame k c ≡ 0 → Framed k c
-unfolding frame
-frame-none k c e = go (eqb (length c) 0) (whole c) (numbered k c) refl refl e
+pub form-none : (k : ℕ) (c : List ℕ) → form k c ≡ 0 → Formed k c
+unfolding form
+form-none k c e = go (eqb (length c) 0) (whole c) (numbered k c) refl refl e
   where
     go : (a b n : Bool) → whole c ≡ b → numbered k c ≡ n → _≡_ {A = ℕ} (cond a 25 (cond b (cond n 0 22) 20)) 0
-        → Framed k c
+        → Formed k c
     go true b n p q h = absurd (omega arith)
     go false false n p q h = absurd (omega arith)
     go false true false p q h = absurd (omega arith)
@@ -103,15 +103,15 @@ frame-none k c e = go (eqb (length c) 0) (whole c) (numbered k c) refl refl e
 
 -- A row's card that is not refused.
 pub record Rowed (w k : ℕ) (c : List ℕ) : Type 0 where
-  pub frame-is : frame k c ≡ 0
+  pub form-is : form k c ≡ 0
   pub cells-are : every visible (take w c) ≡ true
   pub blanks-are : every (between blank blank) (slice w columns c) ≡ true
 
 pub row-none : (w k : ℕ) (c : List ℕ) → row w k c ≡ 0 → Rowed w k c
-row-none w k c e = go _ _ refl refl (sym (row-is w k c (row-frame w k c e)) ∙ e)
+row-none w k c e = go _ _ refl refl (sym (row-is w k c (row-form w k c e)) ∙ e)
   where
     go : (a b : Bool) → every visible (take w c) ≡ a → every (between blank blank) (slice w columns c) ≡ b
         → _≡_ {A = ℕ} (cond a (cond b 0 24) 23) 0 → Rowed w k c
-    go true true p q h = record { frame-is = row-frame w k c e; cells-are = p; blanks-are = q }
+    go true true p q h = record { form-is = row-form w k c e; cells-are = p; blanks-are = q }
     go true false p q h = absurd (omega arith)
     go false b p q h = absurd (omega arith)

@@ -5,20 +5,20 @@ use borrow.Author.Needs.{needs}
 use borrow.Author.Tests.{eq-eqb, ne-eqb, not-true, not-false}
 use Rattle.deck_card.specs.Card.{columns, places, long}
 use Rattle.deck_card.proofs.Parts.{whole-is}
-use Rattle.deck_faults.specs.Fault.{frame}
-use Rattle.deck_faults.proofs.Frames.{numbered-is}
-use Rattle.deck_faults.proofs.frame.refusal.Statement.{statement}
-use Rattle.deck_faults.proofs.frame.refusal.Tie as tie
+use Rattle.deck_faults.specs.Fault.{form}
+use Rattle.deck_faults.proofs.Forms.{numbered-is}
+use Rattle.deck_faults.proofs.form.refusal.Statement.{statement}
+use Rattle.deck_faults.proofs.form.refusal.Tie as tie
 
 returns : tie.Need-returns
-unfolding frame
+unfolding form
 returns c = simp (eq-eqb _ _ (c .if1 .taken))
 
 whole-requires : tie.Need-whole-requires
 whole-requires c κs = search needs
 
 returns-2 : tie.Need-returns-2
-unfolding frame
+unfolding form
 returns-2 c =
     let at-if1 = c .before .before in
     simp (
@@ -45,8 +45,8 @@ agrees-requires c κs =
 -- what is left to judge: the number
 decided : (c : tie.After-agrees)
     → let s = c .before .before .before .before .before .before .args in
-    frame (s .number) (s .card .now) ≡ cond (c .agrees .result) 0 22
-unfolding columns places frame
+    form (s .number) (s .card .now) ≡ cond (c .agrees .result) 0 22
+unfolding columns places form
 decided c =
     let at-if2 = c .before .before in
     let at-whole = at-if2 .before in
