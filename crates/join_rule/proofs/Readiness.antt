@@ -52,13 +52,13 @@ drawing-bare w h s e = curves-bare w h (names w h s) (within-fits w h e)
 
 -- a name that is in use is below the mark
 used-small : (w h : ℕ) (t : Tables) (ws : List (List ℕ)) (a : ℕ) → within w h ≡ true → stated w h t ws ≡ true
-    → used t a ≡ true → a < mark
+    → used (t .parent) a ≡ true → a < mark
 unfolding used
 used-small w h t ws a e f u =
     omega (arith, stated-parent w h t ws f, on-below (t .parent) a u, cells-slots w h, within-fits w h e)
 
 pub drawn-ready : (w h : ℕ) (t : Tables) (ws : List (List ℕ)) (a b : ℕ) → within w h ≡ true → stated w h t ws ≡ true
-    → Drawn w h t → used t a ≡ true → used t b ≡ true → Ready w h t ws a b
+    → Drawn w h t → used (t .parent) a ≡ true → used (t .parent) b ≡ true → Ready w h t ws a b
 drawn-ready w h t ws a b e f g u v =
     record {
       size = e;

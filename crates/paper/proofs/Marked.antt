@@ -27,7 +27,8 @@ use Rattle.paper.specs.Enclosure.{topSide, parent, parents, above, depth
 use Rattle.paper.specs.Drawing.{Tables, drawn, drawing, fresh, recover, recovered, alike, same, isDrawing}
 use Rattle.paper.specs.Joining.{Links, at, on, between, shared, chase, removed, rest1, rest3, low, high, spliced}
 use Rattle.paper.specs.Joining.{smooth, smooths, smoothed, moved, close, closes, closed, joined}
-use Rattle.paper.specs.Refusal.{sized, outcome, five, stated, sizeTests, givenTests, used, adjoin, nameTests, joinRefusal, merged}
+use Rattle.paper.specs.Refusal.{sized, outcome, five, stated, sizeTests, givenTests, used, adjoin, nameTests}
+use Rattle.paper.specs.Refusal.{joinRefusal, merged}
 use Rattle.laws.proofs.Test.{and-left, and-right}
 use Rattle.paper.proofs.Alike.{alike-iff}
 

@@ -18,8 +18,8 @@ use Rattle.paper.specs.Refusal.{used, adjoin}
 pub record Joinable (w h : ℕ) (t : Tables) (a b : ℕ) : Type 0 where
   pub inner : (a ≢ 0) × (b ≢ 0)
   pub apart : a ≢ b
-  pub regions : (used t a ≡ true) × (used t b ≡ true)
-  pub neighbours : adjoin w h t a b ≡ true
+  pub regions : (used (t .parent) a ≡ true) × (used (t .parent) b ≡ true)
+  pub neighbours : adjoin w h (t .side1) a b ≡ true
 
 pub data Sitting (w h : ℕ) : Tables → Tables → Type 0 where
   done : {t : Tables} → Sitting w h t t
