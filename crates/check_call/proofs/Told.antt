@@ -41,7 +41,7 @@ unfolding recover told at
 recover-more w s v i n = refl
 
 module _ (w h : ℕ) (s l : List ℕ) where
-  pub recovering-none : length l ≡ w * h → Recovering w h s l 0 0 (4 * (w + 1) + 3) mark
+  pub recovering-none : length l ≡ w * h → Recovering w h s l 0 0 (dart (w + 1) 3) mark
   unfolding recovered dart
   recovering-none e =
       record {
@@ -70,26 +70,26 @@ module _ (w h : ℕ) (s l : List ℕ) where
       let k : i < length l = omega arith in
       (m, omega arith, rw (add-one, take-suc-set l i u k, append-snoc, ← recover-more w s v i m) q)
 
-  module _ (i x d v : ℕ) (f : Recovering w h s l i x d v) where
+  module _ (i x p v : ℕ) (f : Recovering w h s l i x (dart p 3) v) where
     pub recovering-all : w * h ≤ i → l ≡ recovered w h s
     recovering-all b = all i v (f .left) (f .ahead) b (f .long) (f .same)
 
     -- the darts' numbers fit
-    pub recovering-fit : within w h ≡ true → i < w * h → d + 8 < 65536
-    unfolding dart
+    pub recovering-fit : within w h ≡ true → i < w * h → dart (p + 2) 3 < mark
+    unfolding dart mark
     recovering-fit e b =
         omega (arith, f .line, div-le-self i w, cells-fit w h e, within-limits w h e .widest)
 
-    module _ (u : ℕ) (e : u ≡ told s d v) (b : i < w * h) where
+    module _ (d u : ℕ) (g : d ≡ dart p 3) (e : u ≡ told s d v) (b : i < w * h) where
       here : u ≡ told s (hung w i) v
-      here = rw (f .line) at e
+      here = rw (g, f .line) at e
 
       step : (m : ℕ) × (i + 1 + m ≡ w * h)
           × (take (i + 1) (set l i u) ++ recover w s u (i + 1) m ≡ recovered w h s)
       step = rw here (more i v (f .long) b (f .left) (f .ahead) (f .same))
 
       -- a cell more, in the row
-      pub recovering-on : 0 < w → x + 1 ≢ w → Recovering w h s (set l i u) (i + 1) (x + 1) (d + 4) u
+      pub recovering-on : 0 < w → x + 1 ≢ w → Recovering w h s (set l i u) (i + 1) (x + 1) (dart (p + 1) 3) u
       unfolding dart
       recovering-on z n =
           record {
@@ -102,7 +102,7 @@ module _ (w h : ℕ) (s l : List ℕ) where
           }
 
       -- at the end of the row
-      pub recovering-down : 0 < w → x + 1 ≡ w → Recovering w h s (set l i u) (i + 1) 0 (d + 4 + 4) u
+      pub recovering-down : 0 < w → x + 1 ≡ w → Recovering w h s (set l i u) (i + 1) 0 (dart (p + 1 + 1) 3) u
       unfolding dart
       recovering-down z n =
           record {

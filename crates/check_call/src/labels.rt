@@ -28,18 +28,18 @@ pub fn recover(width: u16, height: u16, side: &[u16], labels: &mut [u16])
 {
     let n = width * height;
     let mut label = dart::MARK;
-    let mut line = 4 * (width + 1) + Dart::NORTH;
+    let mut point = width + 1;
     let mut column: u16 = 0;
     let mut i: u16 = 0;
     while i < n {
-        label = told(side, line, label);
+        label = told(side, Dart::leaving(point, Dart::NORTH).number, label);
         labels[i as usize] = label;
         i += 1;
-        line += 4;
+        point += 1;
         column += 1;
         if column == width {
             column = 0;
-            line += 4;
+            point += 1;
         }
     }
 }

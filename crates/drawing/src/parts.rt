@@ -4,6 +4,7 @@ use level_lines::line;
 use level_lines::mask;
 use level_lines::side;
 use level_pieces::points;
+use point_darts::dart;
 use region_parents::parent;
 ghost use mathlib.Core.Path.{_≡_};
 ghost use mathlib.Core.Bool.{true};
@@ -37,7 +38,7 @@ pub fn draw_lines(
         (now (side1 .exit))
         ⌝ }
 {
-    let points = ((width + 1) * (height + 1)) as usize;
+    let points = dart::points(width, height) as usize;
     let around = points + width as usize + 2;
     mask::masks(width, height, &round[..around], &mut lines[..points]);
     line::nexts(width, height, &lines[..points], next1);
@@ -63,7 +64,7 @@ pub fn keep_points(
         (now (kept .exit))
         ⌝ }
 {
-    let n = ((width + 1) * (height + 1)) as usize;
+    let n = dart::points(width, height) as usize;
     points::top_points(width, height, side1, &mut top[..n]);
     keep::keeps(width, height, &lines[..n], &top[..n], &mut kept[..n]);
 }
@@ -86,7 +87,7 @@ pub fn draw_curves(
         (now (other3 .exit))
         ⌝ }
 {
-    let n = ((width + 1) * (height + 1)) as usize;
+    let n = dart::points(width, height) as usize;
     link::links(width, height, next1, &kept[..n], next3, other3);
 }
 
@@ -102,6 +103,6 @@ pub fn draw_parents(width: u16, height: u16, side1: &[u16], top: &[u16], parents
         (parent width (on (now (side1 .entry))) (at (now (side1 .entry))) (take (points width height) (now (top .entry))))
         ⌝ }
 {
-    let n = ((width + 1) * (height + 1)) as usize;
+    let n = dart::points(width, height) as usize;
     parent::find_parents(width, height, side1, &top[..n], parents);
 }

@@ -1,4 +1,5 @@
-use join_darts::back;
+use point_darts::dart;
+use point_darts::dart::Dart;
 use table_entries::entry;
 ghost use mathlib.Core.Path.{_≡_};
 ghost use mathlib.Core.Bool.{true};
@@ -14,7 +15,7 @@ fn is_left(width: u16, side: &[u16], name: u16, dart: u16) -> bool
     requires { ⌜ dart + 4 * (width + 2) < mark ⌝ }
     ensures { λ r. ⌜ r ≡ eqb (at (now (side .entry)) (reversal width dart)) name ⌝ }
 {
-    entry::get(side, back::reversal(width, dart)) == name
+    entry::get(side, Dart { number: dart }.back(width).number) == name
 }
 
 // Whether a dart has the sides a and b.
@@ -37,7 +38,7 @@ pub fn adjoin(width: u16, height: u16, side: &[u16], a: u16, b: u16) -> bool
     requires { ⌜ within width height ≡ true ⌝ }
     ensures { λ r. ⌜ r ≡ some (slots width height) (shared (now (side .entry)) (reversal width) a b) ⌝ }
 {
-    let n = 4 * ((width + 1) * (height + 1));
+    let n = dart::slots(width, height);
     let mut d: u16 = 0;
     while d < n {
         if is_between(width, side, a, b, d) {

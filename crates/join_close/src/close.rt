@@ -27,7 +27,7 @@ fn move_loop(next: &mut [u16], other: &mut [u16], u: u16, v: u16, e: u16, f: u16
 // A loop's point that has only two lines left gives way to the top of its piece. Before has entries for the lines before
 // the join, lines for those that remain.
 fn close_point(
-    outcomes: &[u16; 256],
+    point_table: &[u16; 256],
     before: &[u16],
     lines: &[u16],
     tops: &[u16],
@@ -36,7 +36,7 @@ fn close_point(
     point: u16,
 )
     requires { ⌜
-        (now outcomes ≡ pointTable) × (dart point 3 < mark) × (dart point 3 < length (now before)) ×
+        (now «point_table» ≡ pointTable) × (dart point 3 < mark) × (dart point 3 < length (now before)) ×
         (dart point 3 < length (now lines)) × (dart point 3 < length (now next)) × (point < length (now tops)) ×
         Rising (now tops)
         ⌝ }
@@ -46,7 +46,7 @@ fn close_point(
         ⌝ }
 {
     let curves = ends::mask(next, point);
-    if !ends::two(outcomes, curves, curves) {
+    if !ends::two(point_table, curves, curves) {
         return;
     }
     let seen = ends::seen(curves, point);
@@ -57,7 +57,7 @@ fn close_point(
         return;
     }
     let left = ends::mask(lines, point);
-    if !ends::two(outcomes, ends::mask(before, point), left) {
+    if !ends::two(point_table, ends::mask(before, point), left) {
         return;
     }
     let top = tops[point as usize];
@@ -70,7 +70,7 @@ fn close_point(
 pub fn close(
     width: u16,
     height: u16,
-    outcomes: &[u16; 256],
+    point_table: &[u16; 256],
     before: &[u16],
     lines: &[u16],
     tops: &[u16],
@@ -78,7 +78,7 @@ pub fn close(
     other: &mut [u16],
 )
     requires { ⌜
-        (within width height ≡ true) × (now outcomes ≡ pointTable) × (length (now before) ≡ slots width height) ×
+        (within width height ≡ true) × (now «point_table» ≡ pointTable) × (length (now before) ≡ slots width height) ×
         (length (now lines) ≡ slots width height) × (length (now next) ≡ slots width height) ×
         (length (now tops) ≡ points width height) × Rising (now tops)
         ⌝ }
@@ -88,10 +88,10 @@ pub fn close(
         (links (now (next .entry)) (now (other .entry)))
         ⌝ }
 {
-    let n = (width + 1) * (height + 1);
+    let n = dart::points(width, height);
     let mut p: u16 = 0;
     while p < n {
-        close_point(outcomes, before, lines, tops, next, other, p);
+        close_point(point_table, before, lines, tops, next, other, p);
         p += 1;
     }
 }

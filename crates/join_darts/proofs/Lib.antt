@@ -1,5 +1,4 @@
 pub mod Going
 pub mod Listing
 pub mod Narrowing
-pub mod Reversals
 mod Seeing

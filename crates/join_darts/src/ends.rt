@@ -1,5 +1,6 @@
 // The darts of a level that leave a point: which, and whether they are two, by the point table.
 use point_darts::dart;
+use point_darts::dart::Dart;
 use point_rules::turn;
 ghost use mathlib.Core.Path.{_≡_};
 ghost use mathlib.Core.Bool.{not};
@@ -33,8 +34,8 @@ fn where_on(found: u16, weight: u16) -> u16
 // The mask of a point's lines from what a table has for its four darts.
 fn mask_of(east: u16, south: u16, west: u16, north: u16) -> u16
     ensures { λ r. ⌜
-        ((t : List ℕ) (p : ℕ) → east ≡ at t (4 * p) → south ≡ at t (4 * p + 1) → west ≡ at t (4 * p + 2) →
-        north ≡ at t (4 * p + 3) → (r ≡ mask (on t) p) × (r < 16))
+        ((t : List ℕ) (p : ℕ) → east ≡ at t (dart p 0) → south ≡ at t (dart p 1) → west ≡ at t (dart p 2) →
+        north ≡ at t (dart p 3) → (r ≡ mask (on t) p) × (r < 16))
         ⌝ }
 {
     let e = where_on(east, 1);
@@ -49,27 +50,27 @@ pub fn mask(table: &[u16], point: u16) -> u16
     requires { ⌜ (dart point 3 < mark) × (dart point 3 < length (now table)) ⌝ }
     ensures { λ r. ⌜ (r ≡ mask (on (now (table .entry))) point) × (r < 16) ⌝ }
 {
-    let i = (4 * point) as usize;
+    let i = dart::first_slot(point);
     mask_of(table[i], table[i + 1], table[i + 2], table[i + 3])
 }
 
 // What a point becomes, by the point table, that had the lines before and has the lines left: the table is read at the
 // lines present and those of them that are taken.
-fn becoming(outcomes: &[u16; 256], before: u16, left: u16) -> u16
-    requires { ⌜ (now outcomes ≡ pointTable) × (before < 16) × (left < 16) ⌝ }
+fn becoming(point_table: &[u16; 256], before: u16, left: u16) -> u16
+    requires { ⌜ (now «point_table» ≡ pointTable) × (before < 16) × (left < 16) ⌝ }
     ensures { λ r. ⌜ r ≡ becoming before left ⌝ }
 {
     let present = before | left;
     let taken = present - left;
-    outcomes[(16 * present + taken) as usize]
+    point_table[(16 * present + taken) as usize]
 }
 
 // Whether exactly two lines are left of those before: the point becomes two lines in line or a corner.
-pub fn two(outcomes: &[u16; 256], before: u16, left: u16) -> bool
-    requires { ⌜ (now outcomes ≡ pointTable) × (before < 16) × (left < 16) ⌝ }
+pub fn two(point_table: &[u16; 256], before: u16, left: u16) -> bool
+    requires { ⌜ (now «point_table» ≡ pointTable) × (before < 16) × (left < 16) ⌝ }
     ensures { λ r. ⌜ r ≡ eqb (degree left) 2 ⌝ }
 {
-    let kind = becoming(outcomes, before, left);
+    let kind = becoming(point_table, before, left);
     if kind == turn::IN_LINE {
         return true;
     }
@@ -114,7 +115,7 @@ pub fn seen(lines: u16, point: u16) -> Ends
     ensures { λ r. ⌜ (r .first ≡ dart point (low lines)) × (r .last ≡ dart point (high lines)) ⌝ }
 {
     Ends {
-        first: 4 * point + low(lines),
-        last: 4 * point + high(lines),
+        first: Dart::leaving(point, low(lines)).number,
+        last: Dart::leaving(point, high(lines)).number,
     }
 }

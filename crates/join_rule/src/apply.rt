@@ -4,6 +4,7 @@ use join_lower::side;
 use join_shared::shared;
 use join_smooth::smooth;
 use level_pieces::points;
+use point_darts::dart;
 use point_rules::turn;
 use region_parents::parent;
 use table_entries::entry;
@@ -47,9 +48,9 @@ fn settle_curves(
         ⌝ }
 {
     points::top_points(width, height, lines, top);
-    let outcomes = turn::point_table();
-    smooth::smooth(width, height, &outcomes, before, next, other);
-    close::close(width, height, &outcomes, before, lines, top, next, other);
+    let point_table = turn::point_table();
+    smooth::smooth(width, height, &point_table, before, next, other);
+    close::close(width, height, &point_table, before, lines, top, next, other);
 }
 
 // Steps 3 to 5 from the lines that remain and the sides before the join: curves are settled, the names a and b become the
@@ -123,7 +124,7 @@ pub fn apply(
     shared::remove_plain_shared(width, height, side1, a, b, first, list, next1, back);
     let first3 = list::narrow(next3, first, list);
     shared::remove_shared(width, height, side1, a, b, first3, list, next3, other3);
-    let n = ((width + 1) * (height + 1)) as usize;
+    let n = dart::points(width, height) as usize;
     settle(
         width,
         height,

@@ -51,14 +51,14 @@ fn smooth_edge(next: &mut [u16], other: &mut [u16], u: u16, v: u16)
 
 // A point goes where two darts of two different edges alone leave it. Before has entries for the lines before the join.
 fn smooth_point(
-    outcomes: &[u16; 256],
+    point_table: &[u16; 256],
     before: &[u16],
     next: &mut [u16],
     other: &mut [u16],
     point: u16,
 )
     requires { ⌜
-        (now outcomes ≡ pointTable) × (dart point 3 < mark) × (dart point 3 < length (now before)) ×
+        (now «point_table» ≡ pointTable) × (dart point 3 < mark) × (dart point 3 < length (now before)) ×
         (dart point 3 < length (now next))
         ⌝ }
     ensures { λ _. ⌜
@@ -66,7 +66,7 @@ fn smooth_point(
         ⌝ }
 {
     let left = ends::mask(next, point);
-    if !ends::two(outcomes, ends::mask(before, point), left) {
+    if !ends::two(point_table, ends::mask(before, point), left) {
         return;
     }
     let seen = ends::seen(left, point);
@@ -78,13 +78,13 @@ fn smooth_point(
 pub fn smooth(
     width: u16,
     height: u16,
-    outcomes: &[u16; 256],
+    point_table: &[u16; 256],
     before: &[u16],
     next: &mut [u16],
     other: &mut [u16],
 )
     requires { ⌜
-        (within width height ≡ true) × (now outcomes ≡ pointTable) × (length (now before) ≡ slots width height) ×
+        (within width height ≡ true) × (now «point_table» ≡ pointTable) × (length (now before) ≡ slots width height) ×
         (length (now next) ≡ slots width height)
         ⌝ }
     ensures { λ _. ⌜
@@ -92,10 +92,10 @@ pub fn smooth(
         smoothed width height (links (now (next .entry)) (now (other .entry)))
         ⌝ }
 {
-    let n = (width + 1) * (height + 1);
+    let n = dart::points(width, height);
     let mut p: u16 = 0;
     while p < n {
-        smooth_point(outcomes, before, next, other, p);
+        smooth_point(point_table, before, next, other, p);
         p += 1;
     }
 }

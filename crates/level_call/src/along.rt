@@ -4,6 +4,7 @@ use level_lines::line;
 use level_lines::mask;
 use level_lines::side;
 use level_pieces::points;
+use point_darts::dart;
 use table_entries::entry;
 ghost use mathlib.Core.Path.{_≡_};
 ghost use mathlib.Core.Bool.{true};
@@ -34,7 +35,7 @@ fn keep_anchors(
         ⌝ }
     ensures { λ _. ⌜ now (kept .exit) ≡ keeps width height (now (masks .entry)) (tops width height (on (now (side .entry)))) ⌝ }
 {
-    let n = ((width + 1) * (height + 1)) as usize;
+    let n = dart::points(width, height) as usize;
     points::top_points(width, height, side, &mut scratch[..n]);
     keep::keeps(width, height, masks, &scratch[..n], kept);
 }

@@ -1,5 +1,6 @@
 use crate::along;
 use crate::plain;
+use point_darts::dart;
 use region_names::names;
 use table_entries::entry;
 ghost use mathlib.Core.Path.{_≡_};
@@ -82,7 +83,7 @@ pub fn fill(
         cleared (now (a .entry) ∷ now (b .entry) ∷ now (c .entry) ∷ now (d .entry) ∷ []))
         ⌝ }
 {
-    let points = ((width + 1) * (height + 1)) as usize;
+    let points = dart::points(width, height) as usize;
     let framed = points + width as usize + 2;
     names::name_cells(width, height, sheet, a, b);
     numbered(

@@ -107,7 +107,8 @@ module _ (n : ℕ) (m t : List ℕ) where
   flags-more i v u e g f =
       rw g
       (ext-getD 0 (set (flags n m t i) (at t i) 1) (flags n m t (i + 1))
-      (length-set (flags n m t i) (at t i) 1 ∙ length-table n (λ p. number (stands i m t p)) ∙ sym (length-table n (λ p. number (stands (i + 1) m t p))))
+      (length-set (flags n m t i) (at t i) 1 ∙ length-table n (λ p. number (stands i m t p))
+      ∙ sym (length-table n (λ p. number (stands (i + 1) m t p))))
       (λ p b.
       let d : p < n = rw (length-set (flags n m t i) (at t i) 1, length-table n (λ p. number (stands i m t p))) at b in
       flag-at i p d (rw e at f) (ℕ-discrete p (at t i)) ∙ sym (getD-table n (λ p. number (stands (i + 1) m t p)) p 0 d)))

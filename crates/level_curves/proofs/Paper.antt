@@ -19,7 +19,8 @@ use Rattle.paper.specs.Level.{Level, mask, next, last, along, big, bent, tops, 
 use Rattle.paper.specs.Joining.{at, on}
 use Rattle.paper_laws.proofs.Next.{Lines, mask-below, point-next}
 use Rattle.paper_laws.proofs.Piece.{length-tops}
-use Rattle.paper_laws.proofs.Marks.{length-marked, at-held, on-marked, marked-agree, next-stays, last-stays, lines-inside, along-on, next-small, along-next-small}
+use Rattle.paper_laws.proofs.Marks.{length-marked, at-held, on-marked, marked-agree, next-stays, last-stays}
+use Rattle.paper_laws.proofs.Marks.{lines-inside, along-on, next-small, along-next-small}
 use Rattle.level_lines.proofs.Paper.{drafted, drafted-at}
 use Rattle.level_curves.specs.Keep.{kindAt, large, bends, stands, anchored, keeps}
 use Rattle.level_curves.specs.Link.{ahead, keptAt, starts, lastOf, back, alongNext, alongOther}
@@ -180,4 +181,6 @@ module _ (w h : ℕ) (o : ℕ → Bool) (l : Lines w h o) (room : slots w h ≤ 
       (λ d e. at-held w h o s (lines-inside w h o l) d (along-on w h o l keep d (sym (held d) ∙ e))))
     where
       held : (d : ℕ) → on (marked w h (a .on) (a .next)) d ≡ a .on d
-      held = on-marked w h (a .on) (a .next) (λ d e. lines-inside w h o l d (along-on w h o l keep d e)) (along-next-small w h o l room keep)
+      held =
+          on-marked w h (a .on) (a .next) (λ d e. lines-inside w h o l d (along-on w h o l keep d e))
+          (along-next-small w h o l room keep)

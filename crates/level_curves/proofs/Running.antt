@@ -5,7 +5,7 @@ use mathlib.Core.Path.{_≡_, refl, sym, ap, _∙_}
 use mathlib.Core.Bool.{true, false, cond, and-false}
 use mathlib.Core.List.{List}
 use mathlib.Core.Logic.{_≢_}
-use Prim.Native.Nat.{ℕ, suc, _+_, _*_, _-_, _/_, _%_, _≤_, _<_}
+use Prim.Native.Nat.{ℕ, suc, _-_, _≤_, _<_}
 use native.Mathlib.Omega.{arith}
 use borrow.Author.Tests.{eq-eqb, ne-eqb}
 use Rattle.laws.specs.Run.{run}
@@ -23,15 +23,15 @@ module _ (n : ℕ) (x k : List ℕ) (s : ℕ) where
   running-none a e = record { same = refl; after = e }
 
   module _ (i d a : ℕ) (r : Running n x k s i d a) where
-    stops : at k (a / 4) ≡ 1 → keptAt k (ahead x d) ≡ true
-    unfolding keptAt ahead point
+    stops : at k (point a) ≡ 1 → keptAt k (ahead x d) ≡ true
+    unfolding keptAt ahead
     stops e = rw (← (r .after)) (eq-eqb _ 1 e)
 
-    goes : at k (a / 4) ≢ 1 → keptAt k (ahead x d) ≡ false
-    unfolding keptAt ahead point
+    goes : at k (point a) ≢ 1 → keptAt k (ahead x d) ≡ false
+    unfolding keptAt ahead
     goes e = rw (← (r .after)) (ne-eqb _ 1 e)
 
-    pub running-stop : (v : ℕ) → v ≡ at k (a / 4) → v ≡ 1 → (d ≡ lastOf n x k s) × (a ≡ at x d)
+    pub running-stop : (v : ℕ) → v ≡ at k (point a) → v ≡ 1 → (d ≡ lastOf n x k s) × (a ≡ at x d)
     unfolding lastOf
     running-stop v q e =
         (sym (r .same ∙ run-stop (at x) (λ e. keptAt k (ahead x e)) i d (stops (sym q ∙ e))), r .after)
@@ -40,7 +40,7 @@ module _ (n : ℕ) (x k : List ℕ) (s : ℕ) where
     unfolding lastOf
     step e j = run-go (at x) (λ e. keptAt k (ahead x e)) j d e
 
-    pub running-more : (v b : ℕ) → 0 < i → v ≡ at k (a / 4) → v ≢ 1 → b ≡ at x a → Running n x k s (i - 1) a b
+    pub running-more : (v b : ℕ) → 0 < i → v ≡ at k (point a) → v ≢ 1 → b ≡ at x a → Running n x k s (i - 1) a b
     running-more v b h q e f =
         let j : i ≡ suc (i - 1) = omega arith in
         record {
@@ -61,24 +61,24 @@ module _ (x k : List ℕ) (d : ℕ) where
   unfolding starts on
   off-start e = rw (eq-eqb _ mark e)
 
-  out-start : at k (d / 4) ≢ 1 → starts x k d ≡ false
-  unfolding starts keptAt point
+  out-start : at k (point d) ≢ 1 → starts x k d ≡ false
+  unfolding starts keptAt
   out-start f = rw (ne-eqb _ 1 f) (and-false (on x d))
 
-  in-start : at x d ≢ mark → at k (d / 4) ≡ 1 → starts x k d ≡ true
-  unfolding starts on keptAt point
+  in-start : at x d ≢ mark → at k (point d) ≡ 1 → starts x k d ≡ true
+  unfolding starts on keptAt
   in-start e f = rw (ne-eqb _ mark e, eq-eqb _ 1 f)
 
   pub starts-off : (v y z : ℕ) → v ≡ at x d → v ≡ mark → (mark ≡ cond (starts x k d) y mark) × (mark ≡ cond (starts x k d) z mark)
   starts-off v y z e f = rw (off-start (sym e ∙ f)) (refl, refl)
 
-  pub starts-out : (u y z : ℕ) → u ≡ at k (d / 4) → u ≢ 1
+  pub starts-out : (u y z : ℕ) → u ≡ at k (point d) → u ≢ 1
       → (mark ≡ cond (starts x k d) y mark) × (mark ≡ cond (starts x k d) z mark)
   starts-out u y z g h = rw (out-start (λ q. h (g ∙ q))) (refl, refl)
 
-  pub starts-in : (n v u l a : ℕ) → v ≡ at x d → v ≢ mark → u ≡ at k (d / 4) → u ≡ 1 → l ≡ lastOf n x k d → a ≡ at x l
+  pub starts-in : (n v u l a : ℕ) → v ≡ at x d → v ≢ mark → u ≡ at k (point d) → u ≡ 1 → l ≡ lastOf n x k d → a ≡ at x l
       → (a ≡ cond (starts x k d) (at x (lastOf n x k d)) mark)
-      × (4 * (a / 4) + (l % 4 + 2) % 4 ≡ cond (starts x k d) (back x (lastOf n x k d)) mark)
-  unfolding back ahead dart point direction turned
+      × (dart (point a) (turned (direction l) 2) ≡ cond (starts x k d) (back x (lastOf n x k d)) mark)
+  unfolding back ahead
   starts-in n v u l a e f g h p q =
       rw (in-start (λ r. f (e ∙ r)) (sym g ∙ h), ← p, ← q) (refl, refl)

@@ -1,3 +1,4 @@
+use point_darts::dart;
 use point_rules::turn;
 use table_entries::entry;
 ghost use mathlib.Core.Path.{_≡_};
@@ -114,5 +115,5 @@ pub fn keeps(width: u16, height: u16, masks: &[u16], tops: &[u16], kept: &mut [u
     let kinds = turn::kinds();
     entry::clear(kept);
     flag(&kinds, masks, tops, kept);
-    settle(&kinds, masks, tops, kept, (width + 1) * (height + 1));
+    settle(&kinds, masks, tops, kept, dart::points(width, height));
 }

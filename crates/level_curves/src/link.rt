@@ -1,4 +1,5 @@
 use point_darts::dart;
+use point_darts::dart::Dart;
 use table_entries::entry;
 ghost use mathlib.Core.Path.{_≡_};
 ghost use mathlib.Core.Bool.{true, cond};
@@ -25,7 +26,7 @@ fn last(steps: u16, next: &[u16], kept: &[u16], start: u16) -> Run
     let mut dart = start;
     let mut after = entry::get(next, start);
     while 0 < left {
-        if entry::get(kept, after / 4) == 1 {
+        if entry::get(kept, Dart { number: after }.point()) == 1 {
             return Run { dart, after };
         }
         dart = after;
@@ -55,7 +56,7 @@ fn linked(steps: u16, next: &[u16], kept: &[u16], d: u16) -> Pair
         mark)
         ⌝ }
 {
-    if entry::get(kept, d / 4) != 1 {
+    if entry::get(kept, Dart { number: d }.point()) != 1 {
         return Pair {
             next: dart::MARK,
             other: dart::MARK,
@@ -68,9 +69,11 @@ fn linked(steps: u16, next: &[u16], kept: &[u16], d: u16) -> Pair
         };
     }
     let last = last(steps, next, kept, d);
+    let far = Dart { number: last.after }.point();
+    let direction = Dart { number: last.dart }.direction();
     Pair {
         next: last.after,
-        other: 4 * (last.after / 4) + (last.dart % 4 + 2) % 4,
+        other: Dart::leaving(far, dart::opposite(direction)).number,
     }
 }
 
@@ -93,7 +96,7 @@ pub fn links(
         (now (other .exit) ≡ alongOther width height (now (next1 .entry)) (now (kept .entry)))
         ⌝ }
 {
-    let n = 4 * ((width + 1) * (height + 1));
+    let n = dart::slots(width, height);
     let mut d: u16 = 0;
     while d < n {
         let l = linked(n, next1, kept, d);

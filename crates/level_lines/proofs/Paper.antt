@@ -49,7 +49,11 @@ module _ (w h : ℕ) (o : ℕ → Bool) where
     onward-next : (d : ℕ) → o d ≡ true → onward w (drafted w h o) d ≡ next w o d
     unfolding onward next turnOf
     onward-next d e =
-        rw (drafted-at (far w d) (line-far w h d (l .lined d e)), lt-ltb (mask o (far w d)) 16 (mask-below o (far w d)), lt-ltb (direction d) 4 (direction-below d))
+        rw (
+          drafted-at (far w d) (line-far w h d (l .lined d e)),
+          lt-ltb (mask o (far w d)) 16 (mask-below o (far w d)),
+          lt-ltb (direction d) 4 (direction-below d),
+        )
 
     pub nexts-paper : nexts w h (drafted w h o) ≡ marked w h o (next w o)
     unfolding nexts

@@ -4,10 +4,10 @@
 --   turning         == the table of turns
 --   nexts w h m     == the table of next; the mark where the masks have no line
 --   others w h m    == the table of other, likewise
+--   entryOf m f d   == the entry of dart d in such a table of the values of f
 use mathlib.Core.Bool.{Bool, cond}
 use mathlib.Core.List.{List}
 use Prim.Native.Nat.{ℕ, _/_, _%_}
-use lib.ListN.{set}
 use Rattle.laws.specs.Table.{table}
 use Rattle.point_darts.specs.Dart.{mark, dart, point, direction, far, reversal}
 use Rattle.point_darts.specs.Point.{has}
@@ -31,15 +31,6 @@ others w h m = marked w h (lined m) (reversal w)
 unfoldable pub turning : List ℕ
 turning = table 64 (λ i. turnOf (i / 4) (i % 4))
 
--- Filling such a table point by point.
---   fourAt t p a b c d == t with these entries at the four darts that leave point p
---   pointed m f p t == t with the entries of f at the darts that leave point p and are lined in m, the mark at the others
-unfoldable pub fourAt : List ℕ → ℕ → ℕ → ℕ → ℕ → ℕ → List ℕ
-fourAt t p a b c d = set (set (set (set t (dart p 0) a) (dart p 1) b) (dart p 2) c) (dart p 3) d
-
+-- the entry of a dart: that of f where the masks have its line, else the mark
 unfoldable pub entryOf : List ℕ → (ℕ → ℕ) → ℕ → ℕ
 entryOf m f d = cond (lined m d) (f d) mark
-
-unfoldable pub pointed : List ℕ → (ℕ → ℕ) → ℕ → List ℕ → List ℕ
-pointed m f p t =
-    fourAt t p (entryOf m f (dart p 0)) (entryOf m f (dart p 1)) (entryOf m f (dart p 2)) (entryOf m f (dart p 3))

@@ -1,4 +1,5 @@
 use point_cells::point;
+use point_darts::dart;
 ghost use mathlib.Core.Path.{_≡_};
 ghost use mathlib.Core.Bool.{true};
 ghost use Prim.Native.Nat.{_+_, _*_, _<_, _≤_};
@@ -30,7 +31,7 @@ pub fn masks(width: u16, height: u16, framed: &[u16], masks: &mut [u16])
         ⌝ }
     ensures { λ _. ⌜ now (masks .exit) ≡ masked width height (now (framed .entry)) ⌝ }
 {
-    let n = (width + 1) * (height + 1);
+    let n = dart::points(width, height);
     let mut p: u16 = 0;
     while p < n {
         masks[p as usize] = point::present(around(width, framed, p));

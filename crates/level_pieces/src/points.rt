@@ -1,4 +1,5 @@
 use point_darts::dart;
+use point_darts::dart::Dart;
 use table_forest::nodes;
 ghost use mathlib.Core.Path.{_≡_};
 ghost use mathlib.Core.Bool.{true, cond};
@@ -38,8 +39,8 @@ fn grow(width: u16, side: &[u16], top: &mut [u16], p: u16)
         (now (top .exit)))
         ⌝ }
 {
-    let w = toward(side, 4 * p + 2, p, 1);
-    let n = toward(side, 4 * p + 3, p, width + 1);
+    let w = toward(side, Dart::leaving(p, Dart::WEST).number, p, 1);
+    let n = toward(side, Dart::leaving(p, Dart::NORTH).number, p, width + 1);
     nodes::plant(top, p, w, n);
 }
 
@@ -51,7 +52,7 @@ pub fn top_points(width: u16, height: u16, side: &[u16], top: &mut [u16])
         ⌝ }
     ensures { λ _. ⌜ now (top .exit) ≡ tops width height (on (now (side .entry))) ⌝ }
 {
-    let n = (width + 1) * (height + 1);
+    let n = dart::points(width, height);
     let mut p: u16 = 0;
     while p < n {
         grow(width, side, top, p);

@@ -56,7 +56,7 @@ module _ (w h : ℕ) (s : List ℕ) (room : slots w h ≤ mark) where
       rw (← x, ← y) (border-shore w h n d o (λ g. p (sym x ∙ g)) (λ g. q (sym y ∙ g)))
 
   module _ (a b : ℕ) (j : Joinable w h (drawing w h s) a b) where
-    used-below : (v : ℕ) → used (drawing w h s) v ≡ true → v ≢ mark
+    used-below : (v : ℕ) → used (drawing w h s .parent) v ≡ true → v ≢ mark
     unfolding used on at drawing drawn
     used-below v e q =
         let past : w * h < v = rw q (omega (arith, cells-slots w h)) in

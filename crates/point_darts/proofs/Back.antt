@@ -1,13 +1,13 @@
--- The way back along a line that stays on the sheet.
+-- The way back along a line.
 use mathlib.Core.Path.{_≡_}
 use mathlib.Core.Bool.{true, _&&_}
-use Prim.Native.Nat.{ℕ, zero, suc, _+_, _/_, _%_, _≤_}
+use Prim.Native.Nat.{ℕ, zero, suc, _+_, _*_, _/_, _%_, _≤_, _<_}
 use native.Mathlib.Nat.{mod-lt, div-add-mod', mul-le-mul}
 use native.Mathlib.Omega.{arith}
 use lib.Dec.{leb}
-use borrow.Author.Tests.{leb-true, le-leb, lt-ltb}
+use borrow.Author.Tests.{leb-true}
 use Rattle.sheet_size.specs.Size.{within}
-use Rattle.point_darts.specs.Dart.{mark, made, point, direction, beside, far, turned, reversal, stays, line, reversed}
+use Rattle.point_darts.specs.Dart.{mark, dart, point, direction, beside, far, turned, reversal, stays, line, reversed}
 use Rattle.laws.proofs.Test.{and-left, and-right}
 use Rattle.sheet_size.proofs.Limit.{Within, within-limits}
 
@@ -21,7 +21,8 @@ low w h p s e =
       mul-le-mul {n₁ = p / (w + 1)} {m₁ = w + 1} {n₂ = 72} {m₂ = 73} (omega arith) (omega arith),
     )
 
-beside-le : (w p k : ℕ) → beside w p k ≤ p + (w + 1)
+-- the point beside a point is at most a row further on
+pub beside-le : (w p k : ℕ) → beside w p k ≤ p + (w + 1)
 unfolding beside
 beside-le w p zero = omega arith
 beside-le w p (suc zero) = omega arith
@@ -44,10 +45,11 @@ on-sheet w h d e =
     let s = within-limits w h (and-left (within w h) (line w h d) e) in
     record { size = s; near = low w h (point d) s (line-row w h d (and-right (within w h) (line w h d) e)) }
 
-pub back : (w h d : ℕ) → within w h && line w h d ≡ true
-    → made (beside w (point d) (direction d)) ((direction d + 2) % 4) ≡ reversed w h d
-unfolding made reversed reversal far turned mark
-back w h d e =
-    let s = on-sheet w h d e in
-    let q : beside w (point d) (direction d) ≤ 16383 = omega (arith, beside-le w (point d) (direction d), s) in
-    simp (e, lt-ltb ((direction d + 2) % 4) 4 (omega arith), le-leb (beside w (point d) (direction d)) 16383 q)
+pub back : (w h d : ℕ) → within w h && line w h d ≡ true → reversal w d ≡ reversed w h d
+unfolding reversed
+back w h d e = simp e
+
+-- the reversal of a dart whose number is far from the mark fits
+pub back-fits : (w d : ℕ) → d + 4 * (w + 2) < mark → reversal w d ≤ mark
+unfolding reversal far dart point turned
+back-fits w d b = omega (arith, beside-le w (point d) (direction d))

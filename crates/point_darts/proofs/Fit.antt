@@ -26,7 +26,18 @@ module _ (w h : ℕ) (e : within w h ≡ true) where
   pub frame-fit : points w h + w + 2 ≤ 73 * 74 + 1
   frame-fit = omega (arith, points-fit, within-limits w h e .widest)
 
-  -- the darts of a point
-  pub darts-fit : (p : ℕ) → p < points w h → (dart p 3 < mark) × (dart p 3 < slots w h)
-  unfolding dart mark slots
-  darts-fit p b = omega (arith, points-fit)
+  -- of n points, the darts of point p
+  module _ (n : ℕ) (q : n ≡ points w h) (p : ℕ) (b : p < n) where
+    pub darts-fit : (dart p 3 < mark) × (dart p 3 < slots w h)
+    unfolding dart mark slots
+    darts-fit = omega (arith, points-fit)
+
+    -- and those a row further on
+    pub point-fits : dart p 3 + 4 * (w + 2) < mark
+    unfolding dart mark
+    point-fits = omega (arith, points-fit, within-limits w h e .widest)
+
+  -- of n slots, dart d and those a row further on
+  pub dart-fits : (n : ℕ) → n ≡ slots w h → (d : ℕ) → d < n → d + 4 * (w + 2) < mark
+  unfolding mark slots
+  dart-fits n q d b = omega (arith, points-fit, within-limits w h e .widest)

@@ -1,5 +1,5 @@
 pub mod Arm
-mod Back
+pub mod Back
 pub mod Count
 pub mod Darts
 pub mod Fit

@@ -1,8 +1,9 @@
 ghost use mathlib.Core.Path.{_≡_};
 ghost use mathlib.Core.Bool.{true, _&&_};
-ghost use Prim.Native.Nat.{_-_, _+_, _<_};
+ghost use Prim.Native.Nat.{_-_, _+_, _*_, _≤_, _<_};
 ghost use Rattle.sheet_size.specs.Size.{within};
-ghost use Rattle.point_darts.specs.Dart.{points, slots, made, point, direction, beside, stays, line, reversed};
+ghost use Rattle.point_darts.specs.Dart.{mark, points, slots, dart, made, point, direction, beside, turned, stays, line};
+ghost use Rattle.point_darts.specs.Dart.{reversal, reversed};
 
 // "None" in every table of links, sides or parents: never a dart, a point or a name.
 pub const MARK: u16 = 65535;
@@ -28,6 +29,29 @@ pub fn slots(width: u16, height: u16) -> u16
     4 * points(width, height)
 }
 
+// The slot of the first of the four darts that leave a point, the one east. The others follow by their directions.
+pub fn first_slot(point: u16) -> usize
+    ensures { λ r. ⌜ r ≡ dart point 0 ⌝ }
+{
+    4 * (point as usize)
+}
+
+// The direction that leads back: two quarter turns.
+pub fn opposite(direction: u16) -> u16
+    requires { ⌜ direction < 4 ⌝ }
+    ensures { λ r. ⌜ r ≡ turned direction 2 ⌝ }
+{
+    (direction + 2) % 4
+}
+
+// A number for each direction, of the lines or the darts that leave a point.
+pub struct Four {
+    pub east: u16,
+    pub south: u16,
+    pub west: u16,
+    pub north: u16,
+}
+
 // a less b, or 0 where b is larger.
 fn less(a: u16, b: u16) -> u16
     ensures { λ r. ⌜ r ≡ a - b ⌝ }
@@ -45,6 +69,38 @@ pub fn beside(point: u16, width: u16, direction: u16) -> u16
         Dart::SOUTH => point + (width + 1),
         Dart::WEST => less(point, 1),
         _ => less(point, width + 1),
+    }
+}
+
+// The points one line away from a point, in the four directions.
+pub fn besides(point: u16, width: u16) -> Four
+    requires { ⌜ point + (width + 1) < 65536 ⌝ }
+    ensures { λ r. ⌜
+        (r .east ≡ beside width point 0) × (r .south ≡ beside width point 1) × (r .west ≡ beside width point 2) ×
+        (r .north ≡ beside width point 3)
+        ⌝ }
+{
+    Four {
+        east: beside(point, width, Dart::EAST),
+        south: beside(point, width, Dart::SOUTH),
+        west: beside(point, width, Dart::WEST),
+        north: beside(point, width, Dart::NORTH),
+    }
+}
+
+// The reversals of the four darts that leave a point.
+pub fn reversals(point: u16, width: u16) -> Four
+    requires { ⌜ dart point 3 + 4 * (width + 2) < mark ⌝ }
+    ensures { λ r. ⌜
+        (r .east ≡ reversal width (dart point 0)) × (r .south ≡ reversal width (dart point 1)) ×
+        (r .west ≡ reversal width (dart point 2)) × (r .north ≡ reversal width (dart point 3))
+        ⌝ }
+{
+    Four {
+        east: Dart::leaving(point, Dart::EAST).back(width).number,
+        south: Dart::leaving(point, Dart::SOUTH).back(width).number,
+        west: Dart::leaving(point, Dart::WEST).back(width).number,
+        north: Dart::leaving(point, Dart::NORTH).back(width).number,
     }
 }
 
@@ -80,6 +136,14 @@ impl Dart {
         if MARK / 4 < point {
             return Dart { number: MARK };
         }
+        Dart::leaving(point, direction)
+    }
+
+    // The dart that leaves a point in a direction, where its number fits.
+    pub fn leaving(point: u16, direction: u16) -> Dart
+        requires { ⌜ dart point direction ≤ mark ⌝ }
+        ensures { λ r. ⌜ r .number ≡ dart point direction ⌝ }
+    {
         Dart {
             number: 4 * point + direction,
         }
@@ -121,7 +185,15 @@ impl Dart {
         if !self.on_sheet(width, height) {
             return Dart { number: MARK };
         }
+        self.back(width)
+    }
+
+    // The dart that leads back, where its number fits; where the line leaves the sheet, the number that the rule gives.
+    pub fn back(self, width: u16) -> Dart
+        requires { ⌜ self .number + 4 * (width + 2) < mark ⌝ }
+        ensures { λ r. ⌜ r .number ≡ reversal width (self .number) ⌝ }
+    {
         let direction = self.direction();
-        Dart::new(beside(self.point(), width, direction), (direction + 2) % 4)
+        Dart::leaving(beside(self.point(), width, direction), opposite(direction))
     }
 }

@@ -83,7 +83,7 @@ const TURNS: [u16; 64] = [
 
 // What a point becomes, at 16 times the mask of present lines plus the mask of taken ones: 0 gone, 1 two lines in line,
 // 2 a corner, 3 three or four lines, 4 cannot be.
-const OUTCOMES: [u16; 256] = [
+const POINT_TABLE: [u16; 256] = [
     0,
     4,
     4,
@@ -367,7 +367,7 @@ pub fn next_line(present: u16, heading: u16) -> NextLine
 pub fn point_table() -> [u16; 256]
     ensures { λ r. ⌜ r ≡ pointTable ⌝ }
 {
-    OUTCOMES
+    POINT_TABLE
 }
 
 // What a point with the lines present becomes when the lines taken go; 4 also where a number is no mask.

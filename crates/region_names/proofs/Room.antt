@@ -8,22 +8,24 @@ use Rattle.laws.specs.Least.{least}
 use Rattle.point_darts.specs.Dart.{points, slots}
 use Rattle.paper.specs.Name.{west, north, names}
 use Rattle.paper_laws.proofs.Marks.{cells-slots}
-use Rattle.region_names.specs.Frame.{Down, surround, framed}
+use Rattle.region_names.specs.Frame.{Down, framed}
 use Rattle.region_names.proofs.First.{first-down, first-names}
 
 module _ (w h : ℕ) where
   pub cells-part : w * h ≤ slots w h
   cells-part = omega (arith, cells-slots w h)
 
-  pub points-part : points w h ≤ slots w h
-  unfolding slots
-  points-part = omega arith
+  -- n points
+  module _ (n : ℕ) (e : n ≡ points w h) where
+    pub points-part : n ≤ slots w h
+    unfolding slots
+    points-part = omega arith
 
-  pub surround-part : surround w h ≤ slots w h
-  unfolding slots points
-  surround-part =
-      let b : 1 ≤ h + 1 = omega arith in
-      omega (arith, mul-le-mul-left (w + 1) b)
+    pub surround-part : n + w + 2 ≤ slots w h
+    unfolding slots points
+    surround-part =
+        let b : 1 ≤ h + 1 = omega arith in
+        omega (arith, mul-le-mul-left (w + 1) b)
 
 -- The first cells in a front, and the names that they give.
 module _ (w h : ℕ) (s t e : List ℕ) (p : t ≡ e) (q : e ≡ least (w * h) (west w s) (north w s)) where

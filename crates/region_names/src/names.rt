@@ -1,5 +1,6 @@
 use crate::cells;
 use crate::frame;
+use point_darts::dart;
 ghost use mathlib.Core.Path.{_≡_};
 ghost use mathlib.Core.Bool.{true};
 ghost use Prim.Native.Nat.{_*_};
@@ -20,7 +21,7 @@ pub fn name_cells(width: u16, height: u16, sheet: &[u16], first: &mut [u16], rou
         ⌝ }
 {
     let cells = (width * height) as usize;
-    let around = ((width + 1) * (height + 1) + width + 2) as usize;
+    let around = (dart::points(width, height) + width + 2) as usize;
     cells::first_cells(width, height, sheet, &mut first[..cells]);
     frame::frame(width, height, &first[..cells], &mut round[..around]);
 }

@@ -13,8 +13,8 @@ use lib.ListN.{length, getD, set}
 use lib.Seq.{getD-set-same}
 use borrow.Author.Tests.{eq-eqb, ne-eqb}
 use Rattle.laws.specs.Table.{table}
-use Rattle.point_darts.specs.Dart.{mark, points, dart, point, beside, turned, reversal}
-use Rattle.point_darts.proofs.Darts.{point-dart, reversal-dart, place, place-below}
+use Rattle.point_darts.specs.Dart.{mark, points, dart, point, reversal}
+use Rattle.point_darts.proofs.Darts.{point-dart, place, place-below}
 use Rattle.paper.specs.Enclosure.{topSide, parent}
 use Rattle.paper.specs.Joining.{at, on}
 use Rattle.paper_laws.proofs.First.{every-cell, top-side-cell}
@@ -40,14 +40,9 @@ and-false : {A : Type 0} (b : Bool) (x y : A) → y ≡ cond (b && false) x y
 and-false true x y = refl
 and-false false x y = refl
 
-pub back-of-east : (w q : ℕ) → reversal w (dart q 0) ≡ 4 * q + 6
-unfolding beside turned dart
-back-of-east w q = reversal-dart w q 0 (lit< tt) ∙ (omega arith)
-
-module _ (w : ℕ) (s t : List ℕ) (k name v : ℕ) (e : v ≡ at s (4 * k)) where
+module _ (w : ℕ) (s t : List ℕ) (k name v c : ℕ) (e : v ≡ at s c) (f : c ≡ dart k 0) where
   own : at s (dart k 0) ≡ v
-  unfolding dart
-  own = rw add-zero (sym e)
+  own = rw (← f) (sym e)
 
   pub parent-unused : (v ≡ name → ⊥)
       → mark ≡ cond (on s (dart k 0) && eqb (at s (dart k 0)) name) (at s (reversal w (dart (getD t k 0) 0))) mark
@@ -55,10 +50,10 @@ module _ (w : ℕ) (s t : List ℕ) (k name v : ℕ) (e : v ≡ at s (4 * k)) wh
       rw (ne-eqb (at s (dart k 0)) name (λ q. n (sym own ∙ q)))
       (and-false (on s (dart k 0)) (at s (reversal w (dart (getD t k 0) 0))) mark)
 
-  pub parent-used : v ≡ name → name < mark → (r : ℕ) → r ≡ at s (4 * getD t k 0 + 6)
+  pub parent-used : v ≡ name → name < mark → (r x y : ℕ) → r ≡ at s x → x ≡ reversal w y → y ≡ dart (getD t k 0) 0
       → r ≡ cond (on s (dart k 0) && eqb (at s (dart k 0)) name) (at s (reversal w (dart (getD t k 0) 0))) mark
-  parent-used p b r f =
-      rw (eq-eqb (at s (dart k 0)) name (own ∙ p), on-entry s (dart k 0) (λ q. omega (arith, own)), back-of-east) f
+  parent-used p b r x y i j l =
+      rw (eq-eqb (at s (dart k 0)) name (own ∙ p), on-entry s (dart k 0) (λ q. omega (arith, own)), ← l, ← j) i
 
 -- The names in turn.
 pub record Parented (w : ℕ) (f : ℕ → ℕ) (s t : List ℕ) (i x k : ℕ) : Type 0 where

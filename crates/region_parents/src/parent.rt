@@ -1,4 +1,5 @@
 use point_darts::dart;
+use point_darts::dart::Dart;
 use table_entries::entry;
 ghost use mathlib.Core.Path.{_≡_};
 ghost use mathlib.Core.Bool.{true, cond, _&&_};
@@ -14,7 +15,9 @@ ghost use Rattle.region_parents.specs.Tops.{Rising};
 
 // The parent of the region of a name, from the corner of the cell that comes first if the name is in use; else the mark.
 fn parent_at(width: u16, side: &[u16], tops: &[u16], corner: u16, name: u16) -> u16
-    requires { ⌜ (dart corner 6 < mark) × (corner < length (now tops)) × Rising (now tops) × (name < mark) ⌝ }
+    requires { ⌜
+        (dart corner 3 + 4 * (width + 2) < mark) × (corner < length (now tops)) × Rising (now tops) × (name < mark)
+        ⌝ }
     ensures { λ r. ⌜
         r ≡
         cond (on (now (side .entry)) (dart corner 0) && eqb (at (now (side .entry)) (dart corner 0)) name)
@@ -22,12 +25,12 @@ fn parent_at(width: u16, side: &[u16], tops: &[u16], corner: u16, name: u16) -> 
         mark
         ⌝ }
 {
-    let first = entry::get(side, 4 * corner);
+    let first = entry::get(side, Dart::leaving(corner, Dart::EAST).number);
     if first != name {
         return dart::MARK;
     }
     let top = tops[corner as usize];
-    entry::get(side, 4 * top + 6)
+    entry::get(side, Dart::leaving(top, Dart::EAST).back(width).number)
 }
 
 // Step 5, parents: each region's parent, from the sides of the lines that remain and the tops of their pieces.

@@ -3,4 +3,5 @@ pub mod Entries
 pub mod Filled
 pub mod Front
 pub mod Half
+pub mod Passed
 pub mod Same

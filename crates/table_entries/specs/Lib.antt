@@ -1,1 +1,2 @@
+pub mod Pointed
 pub mod Trim

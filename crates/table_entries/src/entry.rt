@@ -2,12 +2,14 @@ use point_darts::dart;
 ghost use mathlib.Core.Path.{_≡_};
 ghost use mathlib.Core.Bool.{cond, _&&_};
 ghost use mathlib.Core.List.{[], _∷_};
+ghost use Prim.Native.Nat.{_<_};
 ghost use lib.Dec.{eqb};
 ghost use lib.ListN.{length, set, replicate};
-ghost use Rattle.point_darts.specs.Dart.{mark};
+ghost use Rattle.point_darts.specs.Dart.{mark, dart};
 ghost use Rattle.paper.specs.Drawing.{alike};
 ghost use Rattle.paper.specs.Joining.{at};
 ghost use Rattle.paper.specs.Refusal.{cleared};
+ghost use Rattle.table_entries.specs.Pointed.{fourAt};
 ghost use Rattle.table_entries.specs.Trim.{trimmed};
 
 // The entry of a table at a place, the mark past its end.
@@ -38,6 +40,18 @@ pub fn put_pair(table: &mut [u16], d: u16, value: u16, e: u16, other: u16)
 {
     put(table, d, value);
     put(table, e, other);
+}
+
+// Sets the entries of the four darts that leave a point.
+pub fn put_four(table: &mut [u16], point: u16, east: u16, south: u16, west: u16, north: u16)
+    requires { ⌜ dart point 3 < length (now table) ⌝ }
+    ensures { λ _. ⌜ now (table .exit) ≡ fourAt (now (table .entry)) point east south west north ⌝ }
+{
+    let i = dart::first_slot(point);
+    table[i] = east;
+    table[i + 1] = south;
+    table[i + 2] = west;
+    table[i + 3] = north;
 }
 
 // Sets every entry of a table to 0.

@@ -1,9 +1,7 @@
 use Prim.Native.Nat.{_-_}
 use native.Mathlib.Omega.{arith}
-use Rattle.point_darts.specs.Dart.{points}
-use Rattle.sheet_size.proofs.Limit.{within-limits}
 use Rattle.paper.specs.Joining.{on, close, closes}
-use Rattle.point_darts.proofs.Fit.{points-fit, darts-fit}
+use Rattle.point_darts.proofs.Fit.{darts-fit}
 use Rattle.join_darts.specs.Links.{links}
 use Rattle.join_close.proofs.Closing.{closes-none, closes-more}
 use Rattle.join_darts.proofs.Going.{Going, going-start, going-on, going-end}
@@ -11,39 +9,29 @@ use Rattle.join_close.proofs.close.close.Statement.{statement}
 use Rattle.join_close.proofs.close.close.Tie as tie
 
 abbrev Inv-loop : tie.InvT-loop
-Inv-loop width height outcomes before lines tops next₀ other₀ n p₀ next other p =
+Inv-loop width height «point_table» before lines tops next₀ other₀ n p₀ next other p =
     Going (closes (on lines) tops) n p (links next₀ other₀) (links next other)
 
 abbrev μ-loop : tie.MeasureT-loop
-μ-loop width height outcomes before lines tops next₀ other₀ n p₀ next other p = n - p
+μ-loop width height «point_table» before lines tops next₀ other₀ n p₀ next other p = n - p
 
-add-n : tie.Need-add-n Inv-loop μ-loop
-add-n c = omega (arith, within-limits _ _ (c .before .before .before .before .before .pre .0))
-
-add-n-2 : tie.Need-add-n-2 Inv-loop μ-loop
-add-n-2 c = omega (arith, within-limits _ _ (c .before .before .before .before .before .pre .0))
-
-mul-n : tie.Need-mul-n Inv-loop μ-loop
-unfolding points
-mul-n c = omega (arith, points-fit _ _ (c .before .before .before .before .before .pre .0))
+points-requires : tie.Need-points-requires Inv-loop μ-loop
+points-requires c κs = c .before .before .before .before .before .pre .0
 
 loop-holds : tie.Need-loop-holds Inv-loop μ-loop
 loop-holds c = going-start _ _ _
 
 close-point-requires : tie.Need-close-point-requires Inv-loop μ-loop
-unfolding points
 close-point-requires c κs =
     let i = c .before .before in
-    let q = i .before .before .before .before .before .before .before .pre in
+    let p = i .before .before in
+    let q = p .before .before .before .before .before .before .pre in
     let b = i .loop-test .taken in
-    let (fit, below) = darts-fit _ _ (q .0) _ b in
-    (q .1, fit, rw (q .2) below, rw (q .3) below, rw (i .before .loop .inv .nexts, q .4) below, omega (arith, q .5), q .6)
+    let (fit, below) = darts-fit _ _ (q .0) _ (p .points .ensures) _ b in
+    (q .1, fit, rw (q .2) below, rw (q .3) below, rw (i .before .loop .inv .nexts, q .4) below, omega (arith, q .5, p .points .ensures), q .6)
 
 add-p : tie.Need-add-p Inv-loop μ-loop
-unfolding points
-add-p c =
-    let i = c .before .before .before .before .before .before .before in
-    omega (arith, points-fit _ _ (i .before .before .before .before .before .before .before .pre .0), i .loop-test .taken)
+add-p c = omega (arith, c .before .before .before .before .before .before .before .loop-test .taken)
 
 loop-less : tie.Need-loop-less Inv-loop μ-loop
 loop-less c = omega (arith, c .before .before .before .before .before .before .before .loop-test .taken)
@@ -63,10 +51,10 @@ same-length-2 : tie.Need-same-length-2 Inv-loop μ-loop
 same-length-2 c = c .before .loop .inv .others
 
 returns : tie.Need-returns Inv-loop μ-loop
-unfolding points
 returns c =
-    going-end (closes (on _) _) (close (on _) _) (closes-none _ _) (closes-more _ _) _ _ _ _ (c .before .loop .inv)
-    (c .loop-test .left)
+    rw (← (c .before .before .points .ensures))
+    (going-end (closes (on _) _) (close (on _) _) (closes-none _ _) (closes-more _ _) _ _ _ _ (c .before .loop .inv)
+    (c .loop-test .left))
 
 pub close-spec : {M : Type 1} → statement M
 close-spec =
@@ -74,9 +62,7 @@ close-spec =
     (tie.spec
     Inv-loop
     μ-loop
-    add-n
-    add-n-2
-    mul-n
+    points-requires
     loop-holds
     close-point-requires
     add-p

@@ -1,50 +1,52 @@
-use mathlib.Core.Path.{sym}
 use native.Mathlib.Omega.{arith}
+use Rattle.point_darts.specs.Dart.{dart}
+use Rattle.join_darts.proofs.Seeing.{read-dart}
 use borrow.Author.Needs.{needs}
-use Rattle.point_darts.specs.Dart.{mark, dart}
-use Rattle.table_entries.proofs.Entries.{at-entry}
 use Rattle.join_darts.proofs.ends.mask.Statement.{statement}
 use Rattle.join_darts.proofs.ends.mask.Tie as tie
 
-mul-i : tie.Need-mul-i
-unfolding mark dart
-mul-i c = omega arith
-
-cast-i : tie.Need-cast-i
-cast-i c = search needs
+first-slot-requires : tie.Need-first-slot-requires
+first-slot-requires c κs = search needs
 
 mul-mask-of : tie.Need-mul-mask-of
-mul-mask-of c = search needs
+unfolding dart
+mul-mask-of c = omega arith
 
 shared-slice-read-mask-of : tie.Need-shared-slice-read-mask-of
 unfolding dart
 shared-slice-read-mask-of c = omega arith
 
 add-mask-of : tie.Need-add-mask-of
-add-mask-of c = search needs
+unfolding dart
+add-mask-of c = omega arith
 
 mul-mask-of-2 : tie.Need-mul-mask-of-2
-mul-mask-of-2 c = search needs
+unfolding dart
+mul-mask-of-2 c = omega arith
 
 shared-slice-read-mask-of-2 : tie.Need-shared-slice-read-mask-of-2
 unfolding dart
 shared-slice-read-mask-of-2 c = omega arith
 
 add-mask-of-2 : tie.Need-add-mask-of-2
-add-mask-of-2 c = search needs
+unfolding dart
+add-mask-of-2 c = omega arith
 
 mul-mask-of-3 : tie.Need-mul-mask-of-3
-mul-mask-of-3 c = search needs
+unfolding dart
+mul-mask-of-3 c = omega arith
 
 shared-slice-read-mask-of-3 : tie.Need-shared-slice-read-mask-of-3
 unfolding dart
 shared-slice-read-mask-of-3 c = omega arith
 
 add-mask-of-3 : tie.Need-add-mask-of-3
-add-mask-of-3 c = search needs
+unfolding dart
+add-mask-of-3 c = omega arith
 
 mul-mask-of-4 : tie.Need-mul-mask-of-4
-mul-mask-of-4 c = search needs
+unfolding dart
+mul-mask-of-4 c = omega arith
 
 shared-slice-read-mask-of-4 : tie.Need-shared-slice-read-mask-of-4
 unfolding dart
@@ -56,15 +58,15 @@ mask-of-requires c κs = search needs
 returns : tie.Need-returns
 unfolding dart
 returns c =
-    c .mask-of .ensures _ _ (sym (at-entry _ _ (omega arith))) (sym (at-entry _ _ (omega arith))) (sym (at-entry _ _ (omega arith)))
-    (sym (at-entry _ _ (omega arith)))
+    let e = c .before .before .before .before .before .first-slot .ensures in
+    c .mask-of .ensures _ _ (read-dart _ _ 0 _ (omega arith) (omega arith)) (read-dart _ _ 1 _ (omega arith) (omega arith))
+    (read-dart _ _ 2 _ (omega arith) (omega arith)) (read-dart _ _ 3 _ (omega arith) (omega arith))
 
 pub mask-spec : {M : Type 1} → statement M
 mask-spec =
     tie.close
     (tie.spec
-    mul-i
-    cast-i
+    first-slot-requires
     mul-mask-of
     shared-slice-read-mask-of
     add-mask-of

@@ -26,8 +26,8 @@ add-result-3 c = omega arith
 
 returns : tie.Need-returns
 returns c =
-    mask-sum _ _ _ _ _ _ _ _ (c .before .before .before .where-on .ensures .0) (c .before .before .where-on2 .ensures .0) (c .before .where-on3 .ensures .0)
-    (c .where-on4 .ensures .0)
+    mask-sum _ _ _ _ _ _ _ _ (c .before .before .before .where-on .ensures .0) (c .before .before .where-on2 .ensures .0)
+    (c .before .where-on3 .ensures .0) (c .where-on4 .ensures .0)
 
 pub mask-of-spec : {M : Type 1} → statement M
 mask-of-spec =

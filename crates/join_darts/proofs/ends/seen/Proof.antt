@@ -1,34 +1,31 @@
-use mathlib.Core.Path.{ap}
+use mathlib.Core.Path.{ap, _∙_}
 use native.Mathlib.Omega.{arith}
 use Rattle.point_darts.specs.Dart.{mark, dart}
 use Rattle.join_darts.proofs.ends.seen.Statement.{statement}
 use Rattle.join_darts.proofs.ends.seen.Tie as tie
 
-mul-t3 : tie.Need-mul-t3
-unfolding mark dart
-mul-t3 c = omega arith
-
 low-requires : tie.Need-low-requires
 low-requires c κs = tt
 
-add-t5 : tie.Need-add-t5
+leaving-requires : tie.Need-leaving-requires
 unfolding mark dart
-add-t5 c = omega arith
-
-mul-t6 : tie.Need-mul-t6
-unfolding mark dart
-mul-t6 c = omega arith
+leaving-requires c κs = omega (arith, c .low .ensures .1)
 
 high-requires : tie.Need-high-requires
 high-requires c κs = tt
 
-add-t8 : tie.Need-add-t8
+leaving-requires-2 : tie.Need-leaving-requires-2
 unfolding mark dart
-add-t8 c = omega arith
+leaving-requires-2 c κs = omega (arith, c .high .ensures .1)
 
 returns : tie.Need-returns
-unfolding dart
-returns c = (ap (dart _) (c .before .low .ensures .0), ap (dart _) (c .high .ensures .0))
+returns c =
+    let l = c .before .before in (
+      l .leaving .ensures ∙ ap (dart _) (l .before .low .ensures .0),
+      c .leaving2 .ensures ∙ ap (dart _) (c .before .high .ensures .0),
+    )
 
 pub seen-spec : {M : Type 1} → statement M
-seen-spec = tie.close (tie.spec mul-t3 low-requires add-t5 mul-t6 high-requires add-t8 returns)
+seen-spec =
+    tie.close
+    (tie.spec low-requires leaving-requires high-requires leaving-requires-2 returns)

@@ -28,21 +28,30 @@ unfolding mark
 mul-is-either c = omega (arith, c .before .before .before .before .pre .1, c .before .loop .inv .room)
 
 shared-slice-read-is-either : tie.Need-shared-slice-read-is-either Inv-loop μ-loop
-shared-slice-read-is-either c = omega (arith, c .before .before .before .before .before .pre .0, c .before .before .loop .inv .room, c .before .loop-test .taken)
+shared-slice-read-is-either c =
+    let l = c .before in
+    omega (arith, l .before .before .before .before .pre .0, l .before .loop .inv .room, l .loop-test .taken)
 
 is-either-requires : tie.Need-is-either-requires Inv-loop μ-loop
 is-either-requires c κs = tt
 
 mul-list : tie.Need-mul-list Inv-loop μ-loop
 unfolding mark
-mul-list c = omega (arith, c .before .before .before .before .before .before .before .pre .1, c .before .before .before .before .loop .inv .room)
+mul-list c =
+    let l = c .before .before .before .before in
+    omega (arith, l .before .before .before .pre .1, l .loop .inv .room)
 
 slice-write-list : tie.Need-slice-write-list Inv-loop μ-loop
-slice-write-list c = omega (arith, c .before .before .before .before .loop .inv .long, c .before .before .before .before .loop .inv .room, c .before .before .before .loop-test .taken)
+slice-write-list c =
+    let l = c .before .before .before in
+    let r = l .before .loop .inv in
+    omega (arith, r .long, r .room, l .loop-test .taken)
 
 cast-first-2 : tie.Need-cast-first-2 Inv-loop μ-loop
 unfolding mark
-cast-first-2 c = omega (arith, c .before .before .before .before .before .before .before .pre .1, c .before .before .before .before .loop .inv .room)
+cast-first-2 c =
+    let l = c .before .before .before .before in
+    omega (arith, l .before .before .before .pre .1, l .loop .inv .room)
 
 loop-less : tie.Need-loop-less Inv-loop μ-loop
 loop-less c = omega (arith, c .before .before .before .loop-test .taken)

@@ -40,14 +40,19 @@ mul-reach c = omega (arith, c .before .before .before .before .before .before .b
 
 slice-reshared-read-reach : tie.Need-slice-reshared-read-reach Inv-loop μ-loop
 slice-reshared-read-reach c =
-    let q = c .before .before .before .before .before .before .before .pre in omega (arith, c .before .loop-test .taken, c .before .before .loop .inv (q .2) .long)
+    let q = c .before .before .before .before .before .before .before .pre in
+    omega (arith, c .before .loop-test .taken, c .before .before .loop .inv (q .2) .long)
 
 reach-requires-2 : tie.Need-reach-requires-2 Inv-loop μ-loop
 reach-requires-2 c κs =
     let q = c .before .before .before .before .before .before .before .pre in
     let g = q .2 in
     let r = c .before .before .loop .inv g in
-    (omega (arith, q .0, r .long), q .1 ∙ sym (r .long), rw (r .long) (record { test = g .test; start = _; list = narrowed-rest _ _ _ _ _ (g .list) refl _ _ _ r (c .before .loop-test .taken) }))
+    let m = narrowed-rest _ _ _ _ _ (g .list) refl _ _ _ r (c .before .loop-test .taken) in (
+      omega (arith, q .0, r .long),
+      q .1 ∙ sym (r .long),
+      rw (r .long) (record { test = g .test; start = _; list = m }),
+    )
 
 cast-list : tie.Need-cast-list Inv-loop μ-loop
 cast-list c = omega arith
@@ -66,15 +71,17 @@ loop-less c =
     let q = c .before .before .before .before .before .before .before .before .pre in
     let g = q .2 in
     let r = c .before .before .before .loop .inv g in
-    let f = c .reach2 .ensures (rw (r .long) (record { test = g .test; start = _; list = narrowed-rest _ _ _ _ _ (g .list) refl _ _ _ r (c .before .before .loop-test .taken) })) in
+    let m = narrowed-rest _ _ _ _ _ (g .list) refl _ _ _ r (c .before .before .loop-test .taken) in
+    let f = c .reach2 .ensures (rw (r .long) (record { test = g .test; start = _; list = m })) in
     omega (arith, f .after)
 
 loop-again : tie.Need-loop-again Inv-loop μ-loop
 loop-again c = λ g.
     let r = c .before .before .before .loop .inv g in
     let h = c .before .before .loop-test .taken in
+    let m = narrowed-rest _ _ _ _ _ (g .list) refl _ _ _ r h in
     narrowed-more _ _ _ _ _ (g .list) refl _ _ _ r h _
-    (rw (r .long) at (c .reach2 .ensures (rw (r .long) (record { test = g .test; start = _; list = narrowed-rest _ _ _ _ _ (g .list) refl _ _ _ r h }))))
+    (rw (r .long) at (c .reach2 .ensures (rw (r .long) (record { test = g .test; start = _; list = m }))))
 
 same-length : tie.Need-same-length Inv-loop μ-loop
 same-length c = c .before .loop .inv (c .before .before .before .before .before .before .pre .2) .long

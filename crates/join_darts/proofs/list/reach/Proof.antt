@@ -60,7 +60,9 @@ unfolding mark
 loop-again c =
     let q = c .before .before .before .before .before .pre in
     let h = c .before .before .before .loop-test .taken in
-    λ g. reached-more _ _ _ _ _ _ _ (g .list) (c .before .before .before .before .loop .inv g) h (read-off _ _ (omega (arith, q .1)) (c .before .if1 .left))
+    λ g.
+    reached-more _ _ _ _ _ _ _ (g .list) (c .before .before .before .before .loop .inv g) h
+    (read-off _ _ (omega (arith, q .1)) (c .before .if1 .left))
 
 returns-2 : tie.Need-returns-2 Inv-loop μ-loop
 returns-2 c = λ g. reached-end _ _ _ _ _ (c .before .loop .inv g) (c .loop-test .left)

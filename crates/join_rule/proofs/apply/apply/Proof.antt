@@ -1,12 +1,10 @@
 use mathlib.Core.Path.{_≡_, sym, _∙_}
 use mathlib.Core.List.{_++_}
-use Prim.Native.Nat.{ℕ, _+_, _*_, _≤_}
+use Prim.Native.Nat.{_≤_}
 use native.Mathlib.Omega.{arith}
 use lib.ListN.{length, drop}
 use lib.Seq.{length-take-le, length-front}
-use Rattle.point_darts.specs.Dart.{points, slots}
-use Rattle.sheet_size.proofs.Limit.{within-limits}
-use Rattle.point_darts.proofs.Fit.{points-fit}
+use Rattle.point_darts.specs.Dart.{slots}
 use Rattle.paper_laws.proofs.Marks.{within-fits}
 use Rattle.join_darts.specs.Listed.{bounds, Lined}
 use Rattle.join_darts.proofs.Listing.{bounded-all, bounded-on}
@@ -28,8 +26,11 @@ plain c = c .before .before .before .before .before .before .before
 abbrev narrowed : tie.After-remove-shared → tie.After-narrow
 narrowed c = c .before .before .before .before .before .before .before
 
-abbrev curved : tie.After-settle → tie.After-remove-shared
-curved c = c .before .before .before .before .before .before .before .before .before .before .before
+abbrev sized : tie.After-settle → tie.After-points
+sized c = c .before .before .before .before .before .before .before
+
+abbrev curved : tie.After-points → tie.After-remove-shared
+curved c = c .before .before .before .before .before
 
 abbrev settled : tie.After-clear → tie.After-settle
 settled c = c .before .before .before .before .before .before .before .before .before .before .before .before
@@ -65,11 +66,9 @@ narrow-long : (c : tie.After-narrow)
     ≡ slots (start (listed (plain c)) .args .width) (start (listed (plain c)) .args .height)
 narrow-long c = c .narrow .kept .1 .1 .0 ∙ list-long (listed (plain c))
 
-work-room : (c : tie.After-narrow)
-    → (start (listed (plain c)) .args .width + 1) * (start (listed (plain c)) .args .height + 1)
-    ≤ length (c .narrow .last .1 .1 .0)
-unfolding slots points
-work-room c = omega (arith, narrow-long c)
+work-room : (c : tie.After-points) → c .points .result ≤ length (narrowed (curved c) .narrow .last .1 .1 .0)
+unfolding slots
+work-room c = omega (arith, narrow-long (narrowed (curved c)), c .points .ensures)
 
 list-darts-requires : tie.Need-list-darts-requires
 list-darts-requires c κs =
@@ -122,34 +121,23 @@ remove-shared-requires c κs =
       q .bare,
     )
 
-add-n : tie.Need-add-n
-add-n c = omega (arith, within-limits _ _ (start (listed (plain (narrowed (c .before .before .before .before)))) .pre .size))
-
-add-n-2 : tie.Need-add-n-2
-add-n-2 c = omega (arith, within-limits _ _ (start (listed (plain (narrowed (c .before .before .before .before)))) .pre .size))
-
-mul-n : tie.Need-mul-n
-unfolding points
-mul-n c = omega (arith, points-fit _ _ (start (listed (plain (narrowed (c .before .before .before .before)))) .pre .size))
+points-requires : tie.Need-points-requires
+points-requires c κs = start (listed (plain (narrowed (c .before .before .before .before)))) .pre .size
 
 cast-n : tie.Need-cast-n
-unfolding points
-cast-n c = omega (arith, points-fit _ _ (start (listed (plain (narrowed (c .before .before .before .before)))) .pre .size))
+cast-n c = omega arith
 
 slice-relend-prefix-settle : tie.Need-slice-relend-prefix-settle
-slice-relend-prefix-settle c = work-room (narrowed (c .before .before .before .before .before .before .before .before .before))
+slice-relend-prefix-settle c = work-room (c .before .before .before .before .before)
 
 slice-aggregate-settle : tie.Need-slice-aggregate-settle
-slice-aggregate-settle c =
-    let e = c .before .before .before .before .before .before .before .before .before .before in
-    sym (length-take-le _ _ (work-room (narrowed e)))
+slice-aggregate-settle c = sym (length-take-le _ _ (work-room (c .before .before .before .before .before .before)))
 
 settle-requires : tie.Need-settle-requires
-unfolding points
 settle-requires c κs =
-    let e = c .before .before .before .before .before .before .before .before .before .before in
-    let m = narrowed e in
-    let p = plain m in
+    let n = c .before .before .before .before .before .before in
+    let e = curved n in
+    let p = plain (narrowed e) in
     let q = start (listed p) .pre in
     let z = pair-long _ _ _ _ _ _ _ _ _ (q .sizes) in (
       q .size,
@@ -157,7 +145,7 @@ settle-requires c κs =
       z .lines .1,
       e .remove-shared .kept .1 .1 .1 .1 .1 .1 .1 .0 ∙ z .lines .2,
       z .names,
-      length-take-le _ _ (work-room m),
+      length-take-le _ _ (work-room n) ∙ n .points .ensures,
     )
 
 clear-requires : tie.Need-clear-requires
@@ -168,37 +156,34 @@ clear-requires-2 c κs = tt
 
 -- Each table keeps its length.
 same-length : tie.Need-same-length
-same-length c = plain (narrowed (curved (end c))) .remove-plain-shared .kept .1 .1 .1 .1 .1 .1 .1 .0
+same-length c = plain (narrowed (curved (sized (end c)))) .remove-plain-shared .kept .1 .1 .1 .1 .1 .1 .1 .0
 
 same-length-2 : tie.Need-same-length-2
 same-length-2 c = end c .settle .kept .1 .1 .1 .1 .1 .0
 
 same-length-3 : tie.Need-same-length-3
-same-length-3 c = end c .settle .kept .1 .1 .1 .1 .1 .1 .0 ∙ curved (end c) .remove-shared .kept .1 .1 .1 .1 .1 .1 .1 .0
+same-length-3 c = end c .settle .kept .1 .1 .1 .1 .1 .1 .0 ∙ curved (sized (end c)) .remove-shared .kept .1 .1 .1 .1 .1 .1 .1 .0
 
 same-length-4 : tie.Need-same-length-4
-same-length-4 c = end c .settle .kept .1 .1 .1 .1 .1 .1 .1 .0 ∙ curved (end c) .remove-shared .kept .1 .1 .1 .1 .1 .1 .1 .1 .0
+same-length-4 c = end c .settle .kept .1 .1 .1 .1 .1 .1 .1 .0 ∙ curved (sized (end c)) .remove-shared .kept .1 .1 .1 .1 .1 .1 .1 .1 .0
 
 same-length-5 : tie.Need-same-length-5
 same-length-5 c = end c .settle .kept .1 .1 .1 .1 .1 .1 .1 .1 .0
 
 same-length-6 : tie.Need-same-length-6
 same-length-6 c =
-    backless (cleared c) .clear .kept .0 ∙ plain (narrowed (curved (end c))) .remove-plain-shared .kept .1 .1 .1 .1 .1 .1 .1 .1 .0
+    backless (cleared c) .clear .kept .0 ∙ plain (narrowed (curved (sized (end c)))) .remove-plain-shared .kept .1 .1 .1 .1 .1 .1 .1 .1 .0
 
 -- the list too, whose front is lent for the tops
-abbrev points-of : tie.After-settle → ℕ
-points-of s =
-    let a = start (listed (plain (narrowed (curved s)))) .args in
-    (a .width + 1) * (a .height + 1)
-
 list-kept : (s : tie.After-settle)
-    → length (s .settle .last .1 .1 .1 .1 .1 .1 .1 .1 .1 .0 ++ drop (points-of s) (narrowed (curved s) .narrow .last .1 .1 .0))
-    ≡ length (start (listed (plain (narrowed (curved s)))) .args .list .now)
+    → length (s .settle .last .1 .1 .1 .1 .1 .1 .1 .1 .1 .0
+    ++ drop (sized s .points .result) (narrowed (curved (sized s)) .narrow .last .1 .1 .0))
+    ≡ length (start (listed (plain (narrowed (curved (sized s))))) .args .list .now)
 list-kept s =
-    let m = narrowed (curved s) in
+    let n = sized s in
+    let m = narrowed (curved n) in
     let top = s .settle .last .1 .1 .1 .1 .1 .1 .1 .1 .1 .0 in
-    length-front (m .narrow .last .1 .1 .0) top (points-of s) (s .settle .kept .1 .1 .1 .1 .1 .1 .1 .1 .1 .0)
+    length-front (m .narrow .last .1 .1 .0) top (n .points .result) (s .settle .kept .1 .1 .1 .1 .1 .1 .1 .1 .1 .0)
     ∙ m .narrow .kept .1 .1 .0 ∙ listed (plain m) .list-darts .kept .1 .1 .1 .0
 
 same-length-7 : tie.Need-same-length-7
@@ -207,7 +192,7 @@ same-length-7 c = cleared c .clear2 .kept .0 ∙ list-kept (end c)
 returns : tie.Need-returns
 returns c =
     let s = end c in
-    let e = curved s in
+    let e = curved (sized s) in
     let p = plain (narrowed e) in
     let a = start (listed p) in
     let z = pair-long _ _ _ _ _ _ _ _ _ (a .pre .sizes) in (
@@ -226,9 +211,7 @@ apply-spec =
     remove-plain-shared-requires
     narrow-requires
     remove-shared-requires
-    add-n
-    add-n-2
-    mul-n
+    points-requires
     cast-n
     slice-relend-prefix-settle
     slice-aggregate-settle

@@ -19,7 +19,8 @@ goes-on-requires-4 c κs = tt
 
 returns-2 : tie.Need-returns-2
 returns-2 c =
-    chase-four _ _ _ _ _ _ _ (c .before .before .before .before .goes-on .ensures) (c .before .before .goes-on2 .ensures) (c .before .goes-on3 .ensures)
+    chase-four _ _ _ _ _ _ _ (c .before .before .before .before .goes-on .ensures) (c .before .before .goes-on2 .ensures)
+    (c .before .goes-on3 .ensures)
     (c .goes-on4 .ensures)
 
 pub chase-spec : {M : Type 1} → statement M

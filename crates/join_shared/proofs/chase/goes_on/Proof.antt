@@ -14,7 +14,8 @@ get-requires-2 c κs = tt
 
 returns : tie.Need-returns
 returns c =
-    goes-on _ _ _ _ _ (c .before .get .ensures) (c .get2 .ensures) (sym (c .before .before .before .is-shared .ensures) ∙ c .before .before .if1 .taken)
+    goes-on _ _ _ _ _ (c .before .get .ensures) (c .get2 .ensures)
+    (sym (c .before .before .before .is-shared .ensures) ∙ c .before .before .if1 .taken)
 
 returns-2 : tie.Need-returns-2
 returns-2 c = leaps-not _ _ _ (sym (c .before .is-shared .ensures) ∙ c .if1 .left)

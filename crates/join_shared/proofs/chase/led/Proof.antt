@@ -17,7 +17,8 @@ chase-requires c κs = tt
 
 returns-2 : tie.Need-returns-2
 returns-2 c =
-    led-past _ _ _ _ _ _ (c .before .before .before .get .ensures) (sym (c .before .before .is-shared .ensures) ∙ c .before .if1 .left) _ (c .chase .ensures)
+    led-past _ _ _ _ _ _ (c .before .before .before .get .ensures)
+    (sym (c .before .before .is-shared .ensures) ∙ c .before .if1 .left) _ (c .chase .ensures)
 
 pub led-spec : {M : Type 1} → statement M
 led-spec = tie.close (tie.spec get-requires is-shared-requires returns chase-requires returns-2)

@@ -50,7 +50,9 @@ unfolding mark
 mul-dart c = omega (arith, c .before .before .before .before .before .before .before .before .pre .2, c .before .before .loop-test .taken)
 
 shared-slice-read-dart : tie.Need-shared-slice-read-dart Inv-loop μ-loop
-shared-slice-read-dart c = omega (arith, c .before .before .before .before .before .before .before .before .before .pre .4, c .before .before .before .loop-test .taken)
+shared-slice-read-dart c =
+    let l = c .before .before .before in
+    omega (arith, l .before .before .before .before .before .before .pre .4, l .loop-test .taken)
 
 loop-less : tie.Need-loop-less Inv-loop μ-loop
 loop-less c =
@@ -65,7 +67,8 @@ loop-again c =
     let h = c .before .before .before .loop-test .taken in
     λ g.
     let r = c .before .before .before .before .loop .inv g in
-    treated-more _ _ _ (λ d b e. unlisted-led _ _ _ _ _ (q .0) (q .1) (omega (arith, q .2, q .3)) (q .6) _ _ _ g d e) _ _ (g .list) _ _ _ r h
+    treated-more _ _ _ (λ d b e. unlisted-led _ _ _ _ _ (q .0) (q .1) (omega (arith, q .2, q .3)) (q .6) _ _ _ g d e) _ _
+    (g .list) _ _ _ r h
     (c .before .led .ensures ∙ led-same _ _ _ _ _ (q .0) (q .1) (omega (arith, q .2, q .3)) (q .6) _ _ (r .half) h)
 
 same-length : tie.Need-same-length Inv-loop μ-loop
@@ -74,7 +77,8 @@ same-length c = c .before .loop .inv (c .before .before .before .before .before 
 returns : tie.Need-returns Inv-loop μ-loop
 returns c =
     let q = c .before .before .before .before .before .before .pre in
-    treated-all _ _ _ (λ d b e. unlisted-led _ _ _ _ _ (q .0) (q .1) (omega (arith, q .2, q .3)) (q .6) _ _ _ (q .5) d e) _ _ (c .before .loop .inv (q .5)) (c .loop-test .left)
+    treated-all _ _ _ (λ d b e. unlisted-led _ _ _ _ _ (q .0) (q .1) (omega (arith, q .2, q .3)) (q .6) _ _ _ (q .5) d e) _ _
+    (c .before .loop .inv (q .5)) (c .loop-test .left)
 
 pub lead-spec : {M : Type 1} → statement M
 lead-spec =

@@ -1,9 +1,7 @@
 use Prim.Native.Nat.{_-_}
 use native.Mathlib.Omega.{arith}
-use Rattle.point_darts.specs.Dart.{points}
-use Rattle.sheet_size.proofs.Limit.{within-limits}
 use Rattle.paper.specs.Joining.{smooth, smooths, smoothed}
-use Rattle.point_darts.proofs.Fit.{points-fit, darts-fit}
+use Rattle.point_darts.proofs.Fit.{darts-fit}
 use Rattle.join_darts.specs.Links.{links}
 use Rattle.join_smooth.proofs.Splicing.{smooths-none, smooths-more}
 use Rattle.join_darts.proofs.Going.{Going, going-start, going-on, going-end}
@@ -11,38 +9,28 @@ use Rattle.join_smooth.proofs.smooth.smooth.Statement.{statement}
 use Rattle.join_smooth.proofs.smooth.smooth.Tie as tie
 
 abbrev Inv-loop : tie.InvT-loop
-Inv-loop width height outcomes before next₀ other₀ n p₀ next other p =
+Inv-loop width height «point_table» before next₀ other₀ n p₀ next other p =
     Going smooths n p (links next₀ other₀) (links next other)
 
 abbrev μ-loop : tie.MeasureT-loop
-μ-loop width height outcomes before next₀ other₀ n p₀ next other p = n - p
+μ-loop width height «point_table» before next₀ other₀ n p₀ next other p = n - p
 
-add-n : tie.Need-add-n Inv-loop μ-loop
-add-n c = omega (arith, within-limits _ _ (c .before .before .before .pre .0))
-
-add-n-2 : tie.Need-add-n-2 Inv-loop μ-loop
-add-n-2 c = omega (arith, within-limits _ _ (c .before .before .before .pre .0))
-
-mul-n : tie.Need-mul-n Inv-loop μ-loop
-unfolding points
-mul-n c = omega (arith, points-fit _ _ (c .before .before .before .pre .0))
+points-requires : tie.Need-points-requires Inv-loop μ-loop
+points-requires c κs = c .before .before .before .pre .0
 
 loop-holds : tie.Need-loop-holds Inv-loop μ-loop
 loop-holds c = going-start _ _ _
 
 smooth-point-requires : tie.Need-smooth-point-requires Inv-loop μ-loop
-unfolding points
 smooth-point-requires c κs =
     let i = c .before .before in
-    let q = i .before .before .before .before .before .pre in
-    let (fit, below) = darts-fit _ _ (q .0) _ (i .loop-test .taken) in
+    let p = i .before .before in
+    let q = p .before .before .before .before .pre in
+    let (fit, below) = darts-fit _ _ (q .0) _ (p .points .ensures) _ (i .loop-test .taken) in
     (q .1, fit, rw (q .2) below, rw (i .before .loop .inv .nexts, q .3) below)
 
 add-p : tie.Need-add-p Inv-loop μ-loop
-unfolding points
-add-p c =
-    let i = c .before .before .before .before .before .before .before in
-    omega (arith, points-fit _ _ (i .before .before .before .before .before .pre .0), i .loop-test .taken)
+add-p c = omega (arith, c .before .before .before .before .before .before .before .loop-test .taken)
 
 loop-less : tie.Need-loop-less Inv-loop μ-loop
 loop-less c = omega (arith, c .before .before .before .before .before .before .before .loop-test .taken)
@@ -62,8 +50,11 @@ same-length-2 : tie.Need-same-length-2 Inv-loop μ-loop
 same-length-2 c = c .before .loop .inv .others
 
 returns : tie.Need-returns Inv-loop μ-loop
-unfolding smoothed points
-returns c = going-end smooths smooth smooths-none smooths-more _ _ _ _ (c .before .loop .inv) (c .loop-test .left)
+unfolding smoothed
+returns c =
+    rw (← (c .before .before .points .ensures))
+    (going-end smooths smooth smooths-none smooths-more _ _ _ _ (c .before .loop .inv)
+    (c .loop-test .left))
 
 pub smooth-spec : {M : Type 1} → statement M
 smooth-spec =
@@ -71,9 +62,7 @@ smooth-spec =
     (tie.spec
     Inv-loop
     μ-loop
-    add-n
-    add-n-2
-    mul-n
+    points-requires
     loop-holds
     smooth-point-requires
     add-p

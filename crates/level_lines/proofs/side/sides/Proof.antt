@@ -1,80 +1,53 @@
 use mathlib.Core.Path.{sym, _∙_}
-use Prim.Native.Nat.{_-_, _*_}
+use Prim.Native.Nat.{_-_}
+use native.Mathlib.Omega.{arith}
 use Rattle.paper.specs.Level.{marked}
+use Rattle.point_darts.proofs.Fit.{points-fit}
+use Rattle.table_entries.proofs.Passed.{Passed, passed-none, passed-room, passed-more, passed-all}
 use Rattle.level_lines.specs.Line.{entryOf}
 use Rattle.level_lines.specs.Side.{beheld, sides}
-use Rattle.point_darts.proofs.Fit.{points-fit}
-use Rattle.sheet_size.proofs.Limit.{within-limits}
-use Rattle.point_darts.specs.Dart.{points, slots, dart}
-use Rattle.level_lines.proofs.Pointing.{filled-point}
-use native.Mathlib.Omega.{arith}
-use Rattle.table_entries.proofs.Filled.{Filled, filled-none, filled-all}
 use Rattle.level_lines.proofs.side.sides.Statement.{statement}
 use Rattle.level_lines.proofs.side.sides.Tie as tie
 
 abbrev Inv-loop : tie.InvT-loop
-Inv-loop width height framed masks side₀ n p₀ side p =
-    Filled (4 * n) (entryOf masks (beheld width framed)) (4 * p) side₀ side
+Inv-loop width height framed masks side₀ n p₀ side p = Passed width height (entryOf masks (beheld width framed)) p side₀ side
 
 abbrev μ-loop : tie.MeasureT-loop
 μ-loop width height framed masks side₀ n p₀ side p = n - p
 
-add-n : tie.Need-add-n Inv-loop μ-loop
-add-n c = omega (arith, within-limits _ _ (c .before .before .before .pre .0))
-
-add-n-2 : tie.Need-add-n-2 Inv-loop μ-loop
-add-n-2 c = omega (arith, within-limits _ _ (c .before .before .before .pre .0))
-
-mul-n : tie.Need-mul-n Inv-loop μ-loop
-unfolding points
-mul-n c = omega (arith, points-fit _ _ (c .before .before .before .pre .0))
+points-requires : tie.Need-points-requires Inv-loop μ-loop
+points-requires c κs = c .before .before .before .pre .0
 
 loop-holds : tie.Need-loop-holds Inv-loop μ-loop
-unfolding points slots
-loop-holds c = filled-none _ _ _ (c .before .before .before .pre .3)
+loop-holds c = passed-none _ _ _ _ (c .before .before .before .before .pre .3)
 
 side-at-requires : tie.Need-side-at-requires Inv-loop μ-loop
-unfolding points dart
-side-at-requires c κs = (
-  omega (arith, c .before .before .before .before .before .before .pre .2, c .before .loop-test .taken),
-  omega
-      (arith, c .before .before .before .before .before .before .pre .1, c .before .loop-test .taken),
-  omega (
-    arith,
-    c
-        .before .before .loop .inv .long,
-    c .before .loop-test .taken,
-  ),
-)
+side-at-requires c κs =
+    let l = c .before in
+    let p = c .before .before .before in
+    let q = p .before .before .before .before .pre in
+    let e = p .points .ensures in
+    let b = l .loop-test .taken in
+    (omega (arith, q .2, e, b), omega (arith, q .1, e, b), passed-room _ _ _ _ e _ _ _ (l .before .loop .inv) b)
 
 add-p : tie.Need-add-p Inv-loop μ-loop
-unfolding points
-add-p c =
-    omega (
-      arith,
-      c .before .before .before .before .loop-test .taken,
-      points-fit _ _ (c .before .before .before
-          .before .before .before .before .before .before .pre .0),
-    )
+add-p c = omega (arith, c .before .before .before .before .loop-test .taken)
 
 loop-less : tie.Need-loop-less Inv-loop μ-loop
 loop-less c = omega (arith, c .before .before .before .before .loop-test .taken)
 
 loop-again : tie.Need-loop-again Inv-loop μ-loop
 loop-again c =
-    filled-point _ _ _ _ _ _ _ (c .before .before .before .before .before .loop .inv) (omega (
-      arith,
-      c .before
-          .before .before .before .loop-test .taken,
-    )) (c .before .before .side-at .ensures)
+    let l = c .before .before .before .before in
+    passed-more _ _ _ _ (l .before .before .points .ensures) _ _ _ (l .before .loop .inv) (l .loop-test .taken) _
+    (c .before .before .side-at .ensures)
 
 same-length : tie.Need-same-length Inv-loop μ-loop
-unfolding points slots
-same-length c = c .before .loop .inv .long ∙ sym (c .before .before .before .before .before .pre .3)
+same-length c = c .before .loop .inv .long ∙ sym (c .before .before .before .before .before .before .pre .3)
 
 returns : tie.Need-returns Inv-loop μ-loop
-unfolding sides marked entryOf slots points
-returns c = filled-all _ _ _ _ _ (c .before .loop .inv) (omega (arith, c .loop-test .left))
+unfolding sides marked entryOf
+returns c = passed-all _ _ _ _ (c .before .before .points .ensures) _ _ _ (c .before .loop .inv) (c .loop-test .left)
 
 pub sides-spec : {M : Type 1} → statement M
 sides-spec =
@@ -82,9 +55,7 @@ sides-spec =
     (tie.spec
     Inv-loop
     μ-loop
-    add-n
-    add-n-2
-    mul-n
+    points-requires
     loop-holds
     side-at-requires
     add-p

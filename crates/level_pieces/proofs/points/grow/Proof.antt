@@ -1,3 +1,6 @@
+use mathlib.Core.Path.{ap, _∙_}
+use mathlib.Core.Bool.{cond}
+use Prim.Native.Nat.{_-_}
 use native.Mathlib.Omega.{arith}
 use borrow.Author.Needs.{needs}
 use Rattle.sheet_size.specs.Size.{widest}
@@ -7,59 +10,50 @@ use Rattle.table_forest.proofs.Reach.{tied-by}
 use Rattle.level_pieces.proofs.points.grow.Statement.{statement}
 use Rattle.level_pieces.proofs.points.grow.Tie as tie
 
-mul-toward : tie.Need-mul-toward
+leaving-requires : tie.Need-leaving-requires
 unfolding dart mark
-mul-toward c = omega arith
-
-add-toward : tie.Need-add-toward
-unfolding dart mark
-add-toward c = omega arith
+leaving-requires c κs = omega arith
 
 toward-requires : tie.Need-toward-requires
 unfolding dart
-toward-requires c κs = omega arith
+toward-requires c κs = omega (arith, c .leaving .ensures)
 
-mul-toward-2 : tie.Need-mul-toward-2
+leaving-requires-2 : tie.Need-leaving-requires-2
 unfolding dart mark
-mul-toward-2 c = omega arith
+leaving-requires-2 c κs = omega arith
 
-add-toward-2 : tie.Need-add-toward-2
-unfolding dart mark
-add-toward-2 c = omega arith
-
-add-toward-3 : tie.Need-add-toward-3
+add-toward : tie.Need-add-toward
 unfolding widest
-add-toward-3 c = omega arith
+add-toward c = omega arith
 
 toward-requires-2 : tie.Need-toward-requires-2
 unfolding dart
-toward-requires-2 c κs = omega arith
+toward-requires-2 c κs = omega (arith, c .leaving2 .ensures)
 
 plant-requires : tie.Need-plant-requires
 plant-requires c κs =
-    let q = c .before .before .before .before .before .pre in
-    let w = toward-back _ _ _ _ _ (c .before .before .toward .ensures) in
+    let q = c .before .before .before .before .before .before .before .pre in
+    let w = toward-back _ _ _ _ _ (c .before .before .before .toward .ensures) in
     (q .4, q .3, w, toward-back _ _ _ _ _ (c .before .toward2 .ensures))
 
 same-length : tie.Need-same-length
 same-length c = search needs
 
 returns : tie.Need-returns
-unfolding dart
-returns c g =
-    let b = c .before .before .before .before in
-    tied-by _ _ _ _ _ _ _ _ (b .before .toward .ensures) (b .toward2 .ensures) (c .before .before .plant .ensures g)
+returns c = λ g.
+    let n = c .before .before .before .before in
+    let w = n .before .before in
+    tied-by _ _ _ _ _ _ _ _ (rw (← (w .before .leaving .ensures)) (w .toward .ensures))
+    (rw (← (n .before .leaving2 .ensures)) (n .toward2 .ensures)) (c .before .before .plant .ensures g)
 
 pub grow-spec : {M : Type 1} → statement M
 grow-spec =
     tie.close
     (tie.spec
-    mul-toward
-    add-toward
+    leaving-requires
     toward-requires
-    mul-toward-2
-    add-toward-2
-    add-toward-3
+    leaving-requires-2
+    add-toward
     toward-requires-2
     plant-requires
     same-length

@@ -35,7 +35,9 @@ unfolding beside
 returns-3 c = rw (c .before .match .keys3) (c .less .ensures)
 
 returns-4 : tie.Need-returns-4
-returns-4 c = rw (beside-rest _ _ _ (c .before .match .rest .0 .0 .1) (c .before .match .rest .0 .1) (c .before .match .rest .1)) (c .less2 .ensures)
+returns-4 c =
+    let r = c .before .match .rest in
+    rw (beside-rest _ _ _ (r .0 .0 .1) (r .0 .1) (r .1)) (c .less2 .ensures)
 
 pub beside-spec : {M : Type 1} → statement M
 beside-spec =

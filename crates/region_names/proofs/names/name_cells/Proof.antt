@@ -1,6 +1,6 @@
-use mathlib.Core.Path.{sym}
+use mathlib.Core.Path.{sym, ap, _∙_}
+use Prim.Native.Nat.{_+_}
 use native.Mathlib.Omega.{arith}
-use Rattle.point_darts.specs.Dart.{points}
 use Rattle.sheet_size.proofs.Limit.{within-limits}
 use Rattle.point_darts.proofs.Fit.{cells-fit, points-fit}
 use Rattle.table_entries.proofs.Front.{front-in, front-long, front-back, back-in, back-long}
@@ -15,53 +15,75 @@ mul-cells c = omega (arith, cells-fit _ _ (c .before .before .before .pre .0))
 cast-cells : tie.Need-cast-cells
 cast-cells c = search needs
 
+points-requires : tie.Need-points-requires
+points-requires c κs = c .before .before .before .pre .0
+
 add-around : tie.Need-add-around
-add-around c = omega (arith, within-limits _ _ (c .before .before .before .pre .0))
+add-around c =
+    let e = c .before .before .before .before .pre .0 in
+    omega (arith, c .points .ensures, points-fit _ _ e, within-limits _ _ e .widest)
 
 add-around-2 : tie.Need-add-around-2
-add-around-2 c = omega (arith, within-limits _ _ (c .before .before .before .pre .0))
-
-mul-around : tie.Need-mul-around
-unfolding points
-mul-around c = omega (arith, points-fit _ _ (c .before .before .before .pre .0), within-limits _ _ (c .before .before .before .pre .0) .widest)
-
-add-around-3 : tie.Need-add-around-3
-unfolding points
-add-around-3 c = omega (arith, points-fit _ _ (c .before .before .before .pre .0), within-limits _ _ (c .before .before .before .pre .0) .widest)
-
-add-around-4 : tie.Need-add-around-4
-unfolding points
-add-around-4 c = omega (arith, points-fit _ _ (c .before .before .before .pre .0), within-limits _ _ (c .before .before .before .pre .0) .widest)
+add-around-2 c =
+    let e = c .before .before .before .before .pre .0 in
+    omega (arith, c .points .ensures, points-fit _ _ e, within-limits _ _ e .widest)
 
 cast-around : tie.Need-cast-around
 cast-around c = search needs
 
 slice-relend-prefix-first-cells : tie.Need-slice-relend-prefix-first-cells
-slice-relend-prefix-first-cells c = front-in _ _ (c .before .before .before .args .first .now) (c .before .before .before .pre .2) (cells-part _ _)
+slice-relend-prefix-first-cells c =
+    let s = c .before .before .before .before in
+    front-in _ _ (s .args .first .now) (s .pre .2) (cells-part _ _)
 
 slice-aggregate-first-cells : tie.Need-slice-aggregate-first-cells
-slice-aggregate-first-cells c = sym (front-long _ _ (c .before .before .before .before .args .first .now) (c .before .before .before .before .pre .2) (cells-part _ _))
+slice-aggregate-first-cells c =
+    let s = c .before .before .before .before .before in
+    sym (front-long _ _ (s .args .first .now) (s .pre .2) (cells-part _ _))
 
 first-cells-requires : tie.Need-first-cells-requires
-first-cells-requires c κs = let q = c .before .before .before .before .pre in (q .0, q .1, front-long _ _ (c .before .before .before .before .args .first .now) (c .before .before .before .before .pre .2) (cells-part _ _))
+first-cells-requires c κs =
+    let s = c .before .before .before .before .before in
+    let q = s .pre in
+    (q .0, q .1, front-long _ _ (s .args .first .now) (q .2) (cells-part _ _))
 
 slice-reshare-prefix-frame : tie.Need-slice-reshare-prefix-frame
-slice-reshare-prefix-frame c = back-in _ _ (c .before .before .before .before .before .before .before .args .first .now) (c .before .before .before .before .before .before .before .pre .2) (cells-part _ _) (c .before .before .first-cells .last .1 .1 .1 .0) (c .before .before .first-cells .kept .1 .1 .1 .0)
+slice-reshare-prefix-frame c =
+    let s = c .before .before .before .before .before .before .before .before in
+    let f = c .before .before .first-cells in
+    back-in _ _ (s .args .first .now) (s .pre .2) (cells-part _ _) (f .last .1 .1 .1 .0) (f .kept .1 .1 .1 .0)
 
 slice-aggregate-frame : tie.Need-slice-aggregate-frame
-slice-aggregate-frame c = sym (back-long _ _ (c .before .before .before .before .before .before .before .before .args .first .now) (c .before .before .before .before .before .before .before .before .pre .2) (cells-part _ _) (c .before .before .before .first-cells .last .1 .1 .1 .0) (c .before .before .before .first-cells .kept .1 .1 .1 .0))
+slice-aggregate-frame c =
+    let s = c .before .before .before .before .before .before .before .before .before in
+    let f = c .before .before .before .first-cells in
+    sym (back-long _ _ (s .args .first .now) (s .pre .2) (cells-part _ _) (f .last .1 .1 .1 .0) (f .kept .1 .1 .1 .0))
 
 slice-relend-prefix-frame : tie.Need-slice-relend-prefix-frame
-unfolding points
-slice-relend-prefix-frame c = front-in _ _ (c .before .before .before .before .before .before .before .before .args .round .now) (c .before .before .before .before .before .before .before .before .pre .3) (surround-part _ _)
+slice-relend-prefix-frame c =
+    let s = c .before .before .before .before .before .before .before .before .before in
+    front-in _ _ (s .args .round .now) (s .pre .3) (surround-part _ _ _ (c .before .before .before .before .before .points .ensures))
 
 slice-aggregate-frame-2 : tie.Need-slice-aggregate-frame-2
-unfolding points
-slice-aggregate-frame-2 c = sym (front-long _ _ (c .before .before .before .before .before .before .before .before .before .args .round .now) (c .before .before .before .before .before .before .before .before .before .pre .3) (surround-part _ _))
+slice-aggregate-frame-2 c =
+    let p = c .before .before .before .before .before .before in
+    let s = p .before .before .before .before in
+    sym (front-long _ _ (s .args .round .now) (s .pre .3) (surround-part _ _ _ (p .points .ensures)))
 
 frame-requires : tie.Need-frame-requires
-unfolding points
-frame-requires c κs = let q = c .before .before .before .before .before .before .before .before .before .pre in (q .0, back-long _ _ (c .before .before .before .before .before .before .before .before .before .args .first .now) (c .before .before .before .before .before .before .before .before .before .pre .2) (cells-part _ _) (c .before .before .before .before .first-cells .last .1 .1 .1 .0) (c .before .before .before .before .first-cells .kept .1 .1 .1 .0), firsts-down _ _ (c .before .before .before .before .before .before .before .before .before .args .sheet .now) _ _ (front-back _ _ (c .before .before .before .before .before .before .before .before .before .args .first .now) (c .before .before .before .before .before .before .before .before .before .pre .2) (cells-part _ _) (c .before .before .before .before .first-cells .last .1 .1 .1 .0) (c .before .before .before .before .first-cells .kept .1 .1 .1 .0)) (c .before .before .before .before .first-cells .ensures), front-long _ _ (c .before .before .before .before .before .before .before .before .before .args .round .now) (c .before .before .before .before .before .before .before .before .before .pre .3) (surround-part _ _))
+frame-requires c κs =
+    let s = c .before .before .before .before .before .before .before .before .before .before in
+    let q = s .pre in
+    let l = s .args .first .now in
+    let f = c .before .before .before .before .first-cells in
+    let e = c .before .before .before .before .before .before .points .ensures in (
+      q .0,
+      back-long _ _ l (q .2) (cells-part _ _) (f .last .1 .1 .1 .0) (f .kept .1 .1 .1 .0),
+      firsts-down _ _ (s .args .sheet .now) _ _
+          (front-back _ _ l (q .2) (cells-part _ _) (f .last .1 .1 .1 .0) (f .kept .1 .1 .1 .0))
+          (f .ensures),
+      front-long _ _ (s .args .round .now) (q .3) (surround-part _ _ _ e) ∙ ap (λ n. n + s .args .width + 2) e,
+    )
 
 same-length : tie.Need-same-length
 same-length c = search needs
@@ -70,8 +92,17 @@ same-length-2 : tie.Need-same-length-2
 same-length-2 c = search needs
 
 returns : tie.Need-returns
-unfolding points
-returns c = firsts-names _ _ _ _ _ (front-back _ _ (c .before .before .before .before .before .before .before .before .before .before .before .before .args .first .now) (c .before .before .before .before .before .before .before .before .before .before .before .before .pre .2) (cells-part _ _) (c .before .before .before .before .before .before .before .first-cells .last .1 .1 .1 .0) (c .before .before .before .before .before .before .before .first-cells .kept .1 .1 .1 .0)) (c .before .before .before .before .before .before .before .first-cells .ensures) _ _ (front-back _ _ (c .before .before .before .before .before .before .before .before .before .before .before .before .args .round .now) (c .before .before .before .before .before .before .before .before .before .before .before .before .pre .3) (surround-part _ _) (c .before .before .frame .last .1 .1 .1 .0) (c .before .before .frame .kept .1 .1 .1 .0)) (c .before .before .frame .ensures)
+returns c =
+    let s = c .before .before .before .before .before .before .before .before .before .before .before .before .before in
+    let q = s .pre in
+    let f = c .before .before .before .before .before .before .before .first-cells in
+    let g = c .before .before .frame in
+    let e = c .before .before .before .before .before .before .before .before .before .points .ensures in
+    firsts-names _ _ _ _ _
+    (front-back _ _ (s .args .first .now) (q .2) (cells-part _ _) (f .last .1 .1 .1 .0) (f .kept .1 .1 .1 .0))
+    (f .ensures) _ _
+    (rw (← e) (front-back _ _ (s .args .round .now) (q .3) (surround-part _ _ _ e) (g .last .1 .1 .1 .0) (g .kept .1 .1 .1 .0)))
+    (g .ensures)
 
 pub name-cells-spec : {M : Type 1} → statement M
 name-cells-spec =
@@ -79,11 +110,9 @@ name-cells-spec =
     (tie.spec
     mul-cells
     cast-cells
+    points-requires
     add-around
     add-around-2
-    mul-around
-    add-around-3
-    add-around-4
     cast-around
     slice-relend-prefix-first-cells
     slice-aggregate-first-cells

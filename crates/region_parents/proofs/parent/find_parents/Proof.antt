@@ -11,7 +11,8 @@ use Rattle.region_parents.proofs.parent.find_parents.Statement.{stateme
 use Rattle.region_parents.proofs.parent.find_parents.Tie as tie
 
 abbrev Inv-loop : tie.InvT-loop
-Inv-loop width height side tops parents₀ n i₀ column₀ corner₀ parents i column corner = Parented width (parent width (on side) (at side) tops) parents₀ parents i column corner
+Inv-loop width height side tops parents₀ n i₀ column₀ corner₀ parents i column corner =
+    Parented width (parent width (on side) (at side) tops) parents₀ parents i column corner
 
 abbrev μ-loop : tie.MeasureT-loop
 μ-loop width height side tops parents₀ n i₀ column₀ corner₀ parents i column corner = n - i
@@ -38,6 +39,7 @@ parent-at-requires c κs =
     let q = c .before .before .before .before .before .pre in
     let k = corner-in _ _ _ _ _ _ _ _ (c .before .loop .inv) (c .loop-test .taken) in
     let m = points-fit _ _ (q .0) in
+    let b = within-limits _ _ (q .0) .widest in
     (omega arith, omega (arith, q .1), q .2, omega (arith, cells-fit _ _ (q .0)))
 
 add-i : tie.Need-add-i Inv-loop μ-loop
@@ -50,10 +52,15 @@ mul-parents : tie.Need-mul-parents Inv-loop μ-loop
 mul-parents c = omega (arith, cells-fit _ _ (c .before .before .before .before .before .before .pre .0))
 
 slice-write-parents-2 : tie.Need-slice-write-parents-2 Inv-loop μ-loop
-slice-write-parents-2 c = rw (c .before .before .loop .inv .half .long, length-set) (omega (arith, c .before .before .before .before .before .before .pre .3))
+slice-write-parents-2 c =
+    let l = c .before .before in
+    rw (l .loop .inv .half .long, length-set) (omega (arith, l .before .before .before .before .pre .3))
 
 add-corner : tie.Need-add-corner Inv-loop μ-loop
-add-corner c = omega (arith, points-fit _ _ (c .before .before .before .before .before .before .pre .0), corner-in _ _ _ _ _ _ _ _ (c .before .before .loop .inv) (c .before .loop-test .taken))
+add-corner c =
+    let l = c .before in
+    let m = points-fit _ _ (l .before .before .before .before .before .pre .0) in
+    omega (arith, corner-in _ _ _ _ _ _ _ _ (l .before .loop .inv) (l .loop-test .taken))
 
 add-column : tie.Need-add-column Inv-loop μ-loop
 add-column c =
@@ -61,7 +68,10 @@ add-column c =
     omega (arith, l .widest, column-in _ 0 _ _ _ _ _ _ (c .before .before .loop .inv) (l .wide))
 
 add-corner-2 : tie.Need-add-corner-2 Inv-loop μ-loop
-add-corner-2 c = omega (arith, points-fit _ _ (c .before .before .before .before .before .before .before .pre .0), corner-in _ _ _ _ _ _ _ _ (c .before .before .before .loop .inv) (c .before .before .loop-test .taken))
+add-corner-2 c =
+    let l = c .before .before in
+    let m = points-fit _ _ (l .before .before .before .before .before .pre .0) in
+    omega (arith, corner-in _ _ _ _ _ _ _ _ (l .before .loop .inv) (l .loop-test .taken))
 
 loop-less : tie.Need-loop-less Inv-loop μ-loop
 loop-less c = omega arith
@@ -85,7 +95,9 @@ same-length : tie.Need-same-length Inv-loop μ-loop
 same-length c = rw length-set at (c .before .loop .inv .half .long)
 
 returns : tie.Need-returns Inv-loop μ-loop
-returns c = parented-all _ _ _ _ _ _ _ _ _ _ (c .before .loop .inv) (rw length-set (c .before .before .before .before .before .pre .3)) (c .loop-test .left)
+returns c =
+    parented-all _ _ _ _ _ _ _ _ _ _ (c .before .loop .inv) (rw length-set (c .before .before .before .before .before .pre .3))
+    (c .loop-test .left)
 
 pub find-parents-spec : {M : Type 1} → statement M
 find-parents-spec =

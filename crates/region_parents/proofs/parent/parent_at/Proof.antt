@@ -1,20 +1,23 @@
-use Rattle.region_parents.proofs.Corner.{parent-unused, parent-used}
-use Rattle.point_darts.specs.Dart.{mark, dart}
 use native.Mathlib.Omega.{arith}
 use borrow.Author.Needs.{needs}
+use Rattle.point_darts.specs.Dart.{mark, dart}
+use Rattle.region_parents.proofs.Corner.{parent-unused, parent-used}
 use Rattle.region_parents.proofs.parent.parent_at.Statement.{statement}
 use Rattle.region_parents.proofs.parent.parent_at.Tie as tie
 
-mul-get : tie.Need-mul-get
+leaving-requires : tie.Need-leaving-requires
 unfolding mark dart
-mul-get c = omega arith
+leaving-requires c κs = omega arith
 
 get-requires : tie.Need-get-requires
 get-requires c κs = search needs
 
 returns : tie.Need-returns
 unfolding mark
-returns c = parent-unused _ _ (c .before .before .before .before .args .tops .now) _ _ _ (c .before .get .ensures) (c .if1 .taken)
+returns c =
+    let g = c .before in
+    parent-unused _ _ (g .before .before .before .before .args .tops .now) _ _ _ _ (g .get .ensures) (g .before .leaving .ensures)
+    (c .if1 .taken)
 
 mul-top : tie.Need-mul-top
 mul-top c = search needs
@@ -22,30 +25,39 @@ mul-top c = search needs
 shared-slice-read-top : tie.Need-shared-slice-read-top
 shared-slice-read-top c = search needs
 
-mul-get-2 : tie.Need-mul-get-2
+leaving-requires-2 : tie.Need-leaving-requires-2
 unfolding mark dart
-mul-get-2 c = omega (arith, c .before .before .before .before .before .pre .2 .up (c .before .before .before .before .before .args .corner))
+leaving-requires-2 c κs =
+    let s = c .before .before .before .before .before .before in
+    omega (arith, s .pre .2 .up (s .args .corner))
 
-add-get : tie.Need-add-get
+back-requires : tie.Need-back-requires
 unfolding mark dart
-add-get c = omega (arith, c .before .before .before .before .before .pre .2 .up (c .before .before .before .before .before .args .corner))
+back-requires c κs =
+    let s = c .before .before .before .before .before .before .before in
+    omega (arith, c .leaving2 .ensures, s .pre .2 .up (s .args .corner))
 
 get-requires-2 : tie.Need-get-requires-2
 get-requires-2 c κs = search needs
 
 returns-2 : tie.Need-returns-2
-returns-2 c = parent-used _ _ (c .before .before .before .before .before .before .args .tops .now) _ _ _ (c .before .before .before .get .ensures) (c .before .before .if1 .left) (c .before .before .before .before .before .before .pre .3) _ (c .get2 .ensures)
+returns-2 c =
+    let g = c .before .before .before .before .before in
+    let s = g .before .before .before .before in
+    parent-used _ _ (s .args .tops .now) _ _ _ _ (g .get .ensures) (g .before .leaving .ensures)
+    (c .before .before .before .before .if1 .left) (s .pre .3) _ _ _ (c .get2 .ensures) (c .before .back .ensures)
+    (c .before .before .leaving2 .ensures)
 
 pub parent-at-spec : {M : Type 1} → statement M
 parent-at-spec =
     tie.close
     (tie.spec
-    mul-get
+    leaving-requires
     get-requires
     returns
     mul-top
     shared-slice-read-top
-    mul-get-2
-    add-get
+    leaving-requires-2
+    back-requires
     get-requires-2
     returns-2)

@@ -17,7 +17,9 @@ point-requires : tie.Need-point-requires
 point-requires c κs = search needs
 
 add-row : tie.Need-add-row
-add-row c = omega (arith, within-limits (c .before .before .before .args .width) (c .before .before .before .args .height) (rw (← (c .before .before .within .ensures)) (not-false (c .before .before .within .result) (c .before .if1 .left))))
+add-row c =
+    let w = c .before .before in
+    omega (arith, within-limits _ _ (sym (w .within .ensures) ∙ not-false (w .within .result) (c .before .if1 .left)))
 
 div-if2 : tie.Need-div-if2
 div-if2 c = search needs
@@ -42,8 +44,8 @@ stays-requires c κs = search needs
 returns-3 : tie.Need-returns-3
 returns-3 c =
     let w = c .before .before .before .before .before in
-    on-rows _ _ _ _ (sym (w .within .ensures) ∙ not-false _ (c .before .before .before .before .if1 .left)) (c .before .before .before .point .ensures)
-    (c .before .before .if2 .left) _ (c .before .direction .ensures) _ (c .stays .ensures)
+    on-rows _ _ _ _ (sym (w .within .ensures) ∙ not-false _ (c .before .before .before .before .if1 .left))
+    (c .before .before .before .point .ensures) (c .before .before .if2 .left) _ (c .before .direction .ensures) _ (c .stays .ensures)
 
 pub on-sheet-spec : {M : Type 1} → statement M
 on-sheet-spec =
