@@ -7,6 +7,10 @@ use crate::naive::{self, Five, Size, CARD, CELLS, MARK};
 use crate::request::{difference, list, Answer, Call, Request, Server};
 use crate::sheets::{self, Random, Sheet};
 use std::sync::OnceLock;
+use std::time::{Duration, Instant};
+
+/// The longest time without a word on standard error.
+const SILENCE: Duration = Duration::from_secs(4);
 
 /// A call on which the two sides differ, and how.
 pub struct Difference {
@@ -14,22 +18,44 @@ pub struct Difference {
     pub what: String,
 }
 
-/// Both sides.
+/// Both sides, and the case at hand: its kind, how many are done, and of how many.
 pub struct Both {
     server: Server,
     pub calls: u64,
+    case: (&'static str, usize, usize),
+    began: Instant,
+    said: Instant,
 }
 
 type Same = Result<(), Difference>;
 
 impl Both {
     pub fn new(server: Server) -> Both {
-        Both { server, calls: 0 }
+        let now = Instant::now();
+        Both { server, calls: 0, case: ("", 0, 0), began: now, said: now }
+    }
+
+    /// Notes the case at hand, and says so where it is the first of its kind.
+    pub fn at(&mut self, kind: &'static str, done: usize, cases: usize) {
+        self.case = (kind, done, cases);
+        if done == 0 {
+            self.say();
+        }
+    }
+
+    /// Says where the run is.
+    fn say(&mut self) {
+        let (kind, done, cases) = self.case;
+        eprintln!("cross: {kind} {done} of {cases}, {} calls, {} s", self.calls, self.began.elapsed().as_secs());
+        self.said = Instant::now();
     }
 
     /// The answer, where both sides give the same.
     fn same(&mut self, request: Request) -> Result<Answer, Difference> {
         self.calls += 1;
+        if self.said.elapsed() > SILENCE {
+            self.say();
+        }
         let naive = request.by_naive();
         let what = match self.server.answer(&request) {
             Ok(library) => difference(request.call, &naive, &library),
@@ -44,30 +70,46 @@ impl Both {
 
 pub struct Kind {
     pub name: &'static str,
+    /// About how long the cases of the default run take.
+    pub seconds: u64,
     /// The number of cases in the default run.
     pub cases: usize,
     pub sheet: fn(usize, &mut Random) -> Sheet,
     pub compare: fn(&mut Both, &Sheet, &mut Random) -> Same,
 }
 
+/// The kinds; `cross/run --help` prints the name and the seconds of each, with the line above it.
 pub fn kinds() -> Vec<Kind> {
     let any = |_: usize, random: &mut Random| sized(random, 72);
     let middling = |_: usize, random: &mut Random| sized(random, 20);
     let little = |_: usize, random: &mut Random| sized(random, 9);
     vec![
-        Kind { name: "small", cases: sheets::all_small().len(), sheet: small, compare: everything },
-        Kind { name: "levels", cases: 4000, sheet: any, compare: levels },
-        Kind { name: "drawings", cases: 4000, sheet: any, compare: drawings },
-        Kind { name: "joins", cases: 2400, sheet: middling, compare: joins },
-        Kind { name: "large joins", cases: 9, sheet: large, compare: joins },
-        Kind { name: "long joins", cases: 2, sheet: crowded, compare: joins },
-        Kind { name: "names", cases: 4000, sheet: middling, compare: names },
-        Kind { name: "damage", cases: 16000, sheet: middling, compare: damage },
-        Kind { name: "large damage", cases: 3000, sheet: any, compare: damage },
-        Kind { name: "lengths", cases: 900, sheet: little, compare: lengths },
-        Kind { name: "large lengths", cases: 15, sheet: any, compare: lengths },
-        Kind { name: "decks", cases: 6000, sheet: any, compare: decks },
-        Kind { name: "deck bytes", cases: 24, sheet: little, compare: deck_bytes },
+        // every level, count and join of every sheet up to 3 by 3 with up to 3 labels
+        Kind { name: "small", seconds: 5, cases: sheets::all_small().len(), sheet: small, compare: everything },
+        // the levels of a sheet of any size
+        Kind { name: "levels", seconds: 5, cases: 4000, sheet: any, compare: levels },
+        // drawing a sheet of any size, checking the drawing, and counting in it
+        Kind { name: "drawings", seconds: 9, cases: 4000, sheet: any, compare: drawings },
+        // joins in a sheet up to 20 by 20, until no two regions share a line
+        Kind { name: "joins", seconds: 22, cases: 2400, sheet: middling, compare: joins },
+        // such joins in a sheet of 72 by 72
+        Kind { name: "large joins", seconds: 4, cases: 9, sheet: large, compare: joins },
+        // such joins in a sheet of many regions
+        Kind { name: "long joins", seconds: 7, cases: 2, sheet: crowded, compare: joins },
+        // joins and counts of names that are 0, equal, unused, too large or far apart
+        Kind { name: "names", seconds: 6, cases: 4000, sheet: middling, compare: names },
+        // tables that are most often no drawing, of a sheet up to 20 by 20
+        Kind { name: "damage", seconds: 7, cases: 16000, sheet: middling, compare: damage },
+        // such tables of a sheet of any size
+        Kind { name: "large damage", seconds: 8, cases: 3000, sheet: any, compare: damage },
+        // lengths and sizes that are not the stated ones, for a sheet up to 9 by 9
+        Kind { name: "lengths", seconds: 4, cases: 900, sheet: little, compare: lengths },
+        // such lengths and sizes for a sheet of any size
+        Kind { name: "large lengths", seconds: 1, cases: 15, sheet: any, compare: lengths },
+        // writing a deck, reading it, and reading decks changed in one or two ways
+        Kind { name: "decks", seconds: 4, cases: 6000, sheet: any, compare: decks },
+        // a small deck with each byte changed, and cut at each place
+        Kind { name: "deck bytes", seconds: 2, cases: 24, sheet: little, compare: deck_bytes },
     ]
 }
 

@@ -1,6 +1,6 @@
 //! The cross-check: runs the library and an independent implementation on the same inputs and compares everything.
 //!
-//!   cross run COUNT PARTS SEED KIND SERVER..   a kind of cases, or `all`: COUNT times as many as by default, of which one
+//!   cross run TIMES PARTS SEED KIND SERVER..   a kind of cases, or `all`: TIMES times as many as by default, of which one
 //!                                              in PARTS
 //!   cross one SEED KIND SERVER..               one case again
 //!   cross vectors DIR                          the independent implementation against worked vectors
@@ -23,7 +23,9 @@ use sheets::Random;
 use std::path::Path;
 use std::process::ExitCode;
 
-const USAGE: &str = "usage: cross run COUNT PARTS SEED KIND SERVER.. | one SEED KIND SERVER.. | vectors DIR | expect";
+const USAGE: &str = "usage: cross run TIMES PARTS SEED KIND SERVER.. | one SEED KIND SERVER.. | vectors DIR | expect";
+/// The most that TIMES can be, so that every case has an index of 32 bits.
+const MOST_TIMES: u64 = 100_000;
 
 fn main() -> ExitCode {
     let arguments: Vec<String> = std::env::args().skip(1).collect();
@@ -33,15 +35,20 @@ fn main() -> ExitCode {
     let kinds = |name: &str| {
         let chosen: Vec<Kind> = kinds().into_iter().filter(|kind| name == "all" || kind.name == name).collect();
         if chosen.is_empty() {
-            refuse(&format!("{name} is no kind"));
+            let known: Vec<&str> = kinds().iter().map(|kind| kind.name).collect();
+            refuse(&format!("there is no kind `{name}`; the kinds are all, {}", known.join(", ")));
         }
         chosen
     };
     let agreed = match words[..] {
-        ["run", count, parts, seed, kind, _, ..] => {
-            run(both(5), &kinds(kind), (number(count) as usize, number(parts) as usize), number(seed))
+        ["run", times, parts, seed, kind, _, ..] => {
+            run(both(5), &kinds(kind), number(times), number(parts).max(1) as usize, number(seed))
         }
-        ["one", seed, kind, _, ..] => kinds(kind).iter().all(|kind| agrees(&mut both(3), kind, number(seed))),
+        ["one", seed, kind, _, ..] => kinds(kind).iter().all(|kind| {
+            let mut both = both(3);
+            both.at(kind.name, 0, 1);
+            agrees(&mut both, kind, number(seed))
+        }),
         ["vectors", folder] => vectors::run(Path::new(folder)),
         ["expect"] => vectors::expect(),
         _ => refuse("the words are none of these"),
@@ -69,19 +76,33 @@ fn agrees(both: &mut Both, kind: &Kind, seed: u64) -> bool {
     }
 }
 
+/// A time in words.
+fn in_words(seconds: u64) -> String {
+    match seconds {
+        0..=119 => format!("{seconds} s"),
+        120..=7199 => format!("{} minutes", seconds / 60),
+        7200..=172_799 => format!("{} hours", seconds / 3600),
+        _ => format!("{} days", seconds / 86400),
+    }
+}
+
 /// Runs the cases of some kinds and prints how many there were.
-fn run(mut both: Both, kinds: &[Kind], (count, parts): (usize, usize), start: u64) -> bool {
-    let began = std::time::Instant::now();
+fn run(mut both: Both, kinds: &[Kind], times: u64, parts: usize, start: u64) -> bool {
+    if times == 0 || times > MOST_TIMES {
+        refuse(&format!("TIMES is 1 to {MOST_TIMES}, not {times}"));
+    }
+    let indices = |kind: &Kind| (0..kind.cases * times as usize).step_by(parts);
+    let cases: usize = kinds.iter().map(|kind| indices(kind).len()).sum();
+    let seconds = times * kinds.iter().map(|kind| kind.seconds).sum::<u64>();
+    eprintln!("cross: {cases} cases, about {} of one core", in_words(seconds));
     let mut summary = Vec::new();
     let mut total = 0;
     for kind in kinds {
-        let indices: Vec<usize> = (0..kind.cases * count).step_by(parts).collect();
+        let indices = indices(kind);
         let cases = indices.len();
         both.calls = 0;
-        for (done, &index) in indices.iter().enumerate() {
-            if done % cases.div_ceil(4) == 0 {
-                eprintln!("cross: {} {done} of {cases}, {} s", kind.name, began.elapsed().as_secs());
-            }
+        for (done, index) in indices.enumerate() {
+            both.at(kind.name, done, cases);
             if !agrees(&mut both, kind, ((index as u64) << 32) | (start & 0xFFFF_FFFF)) {
                 return false;
             }

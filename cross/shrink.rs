@@ -59,6 +59,7 @@ fn found(both: &mut Both, kind: &Kind, sheet: &Sheet, seed: u64, until: Instant)
 
 /// Prints the smallest case found.
 pub fn report(both: &mut Both, kind: &Kind, sheet: Sheet, seed: u64, difference: Difference) {
+    eprintln!("cross: looking for a smaller case, for at most {} s", PATIENCE.as_secs());
     let until = Instant::now() + PATIENCE;
     let (mut sheet, mut difference, mut seed) = (sheet, difference, seed);
     while let Some(smaller) = found(both, kind, &sheet, seed, until) {

@@ -5,7 +5,8 @@
  *   A B A
  *   A A A
  *
- * lists it, joins the pond to the common in the map itself, and lists it again. At the root of the repository, x86-64:
+ * lists it, joins the pond to the common in the map itself, and lists it again. examples/run builds and runs it, on x86-64
+ * or Arm. On x86-64 any C compiler will do, at the root of the repository:
  *
  *   rt staticlib raimenolta
  *   cc examples/pond.c -Iinclude target/staticlib/libraimenolta.a -o pond
@@ -33,7 +34,7 @@ static int refused(uint16_t number) {
 
 /* Each region: name, label, parent, depth and holes. Each curve: its smaller dart, other, side and other's side. */
 static int list(void) {
-    for (unsigned name = 1; name < NAMES; name++) {
+    for (uint16_t name = 1; name < NAMES; name++) {
         uint16_t depth, holes;
         if (parent[name] == RAIMENOLTA_NONE) {
             continue;
