@@ -6,7 +6,7 @@ use case_tables::tables;
 use case_tables::tables::Tables;
 use case_tables::tables::Works;
 use check_call::check;
-use count_answer::answer::Count;
+use count_answer::Count;
 use count_call::count;
 use point_darts::dart;
 ghost use Prim.Native.Nat.{_≤_};

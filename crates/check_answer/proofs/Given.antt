@@ -65,9 +65,12 @@ module _ (w h : ℕ) (t : Tables) (ws : List (List ℕ)) where
       accepted-on us = passed-append 1 6 (lit< tt) (givenTests w h t ws) us given-numbered passed
 
     -- it refuses, and so does such a call, whatever its values ns and its tables zs would be
-    pub refused-stops : numberOf v ≢ 0 → (us : List (Bool × ℕ)) (ns : List ℕ) (zs : List (List ℕ))
-        → told v (five t) vs ≡ outcome (firstFailed (givenTests w h t ws ++ us)) ns (five t) zs ws
-    refused-stops n us ns zs =
-        let s = stopped-append 1 6 (lit< tt) (givenTests w h t ws) us given-numbered (λ z. n (given-number ∙ z)) in
-        told-refused v (firstFailed (givenTests w h t ws ++ us)) (given-number ∙ sym s) n ns (five t) zs ws vs
-        (given-work ∙ ap (λ k. work-left k ws) (sym s))
+    module _ (n : numberOf v ≢ 0) (us : List (Bool × ℕ)) where
+      pub refused-on : firstFailed (givenTests w h t ws ++ us) ≡ firstFailed (givenTests w h t ws)
+      refused-on = stopped-append 1 6 (lit< tt) (givenTests w h t ws) us given-numbered (λ z. n (given-number ∙ z))
+
+      pub refused-stops : (ns : List ℕ) (zs : List (List ℕ))
+          → told v (five t) vs ≡ outcome (firstFailed (givenTests w h t ws ++ us)) ns (five t) zs ws
+      refused-stops ns zs =
+          told-refused v (firstFailed (givenTests w h t ws ++ us)) (given-number ∙ sym refused-on) n ns (five t) zs ws vs
+          (given-work ∙ ap (λ k. work-left k ws) (sym refused-on))

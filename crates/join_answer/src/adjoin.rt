@@ -5,10 +5,10 @@ ghost use mathlib.Core.Path.{_≡_};
 ghost use mathlib.Core.Bool.{true};
 ghost use Prim.Native.Nat.{_+_, _*_, _<_};
 ghost use lib.Dec.{eqb};
-ghost use Rattle.laws.specs.Table.{some};
 ghost use Rattle.sheet_size.specs.Size.{within};
-ghost use Rattle.point_darts.specs.Dart.{mark, slots, reversal};
+ghost use Rattle.point_darts.specs.Dart.{mark, reversal};
 ghost use Rattle.paper.specs.Joining.{at, shared};
+ghost use Rattle.paper.specs.Refusal.{adjoin};
 
 // Whether the side on a dart's left hand, that of its reversal, has a name.
 fn is_left(width: u16, side: &[u16], name: u16, dart: u16) -> bool
@@ -36,7 +36,7 @@ fn is_between(width: u16, side: &[u16], a: u16, b: u16, dart: u16) -> bool
 // Whether the regions a and b share a line: some dart has the one on its right hand and the other on its left.
 pub fn adjoin(width: u16, height: u16, side: &[u16], a: u16, b: u16) -> bool
     requires { ⌜ within width height ≡ true ⌝ }
-    ensures { λ r. ⌜ r ≡ some (slots width height) (shared (now (side .entry)) (reversal width) a b) ⌝ }
+    ensures { λ r. ⌜ r ≡ adjoin width height (now (side .entry)) a b ⌝ }
 {
     let n = dart::slots(width, height);
     let mut d: u16 = 0;

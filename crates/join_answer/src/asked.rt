@@ -1,43 +1,60 @@
 use crate::adjoin;
-use crate::answer;
-use crate::answer::Joined;
-use check_answer::answer::Verdict;
+use answer::Answer;
+use point_darts::dart;
+use table_entries::entry;
 ghost use mathlib.Core.Path.{_≡_};
 ghost use mathlib.Core.Bool.{true};
-ghost use Rattle.laws.specs.Table.{some};
+ghost use Rattle.laws.specs.First.{firstFailed};
 ghost use Rattle.sheet_size.specs.Size.{within};
-ghost use Rattle.point_darts.specs.Dart.{slots, reversal};
-ghost use Rattle.paper.specs.Joining.{shared};
-ghost use Rattle.check_answer.specs.declared.answer.Verdict.{Verdict};
-ghost use Rattle.join_answer.specs.Answer.{named, asked};
+ghost use Rattle.paper.specs.Refusal.{nameTests};
+ghost use Rattle.answer.specs.Answer.{numberOf};
+ghost use Rattle.join_answer.specs.Asked.{asked};
+
+// What joining answers to two names, by the parents of the drawing: done where both are regions and differ.
+fn check_names(parent: &[u16], a: u16, b: u16) -> Answer
+    ensures { λ r. ⌜ numberOf r ≡ firstFailed (nameTests (now (parent .entry)) a b) ⌝ }
+{
+    if a == 0 {
+        return Answer::Outside;
+    }
+    if b == 0 {
+        return Answer::Outside;
+    }
+    if a == b {
+        return Answer::Equal;
+    }
+    if entry::get(parent, a) == dart::MARK {
+        return Answer::Name;
+    }
+    if entry::get(parent, b) == dart::MARK {
+        return Answer::Name;
+    }
+    Answer::Done
+}
 
 // What joining answers to two names after a check of the drawing: what the check refuses, or what is refused of the names,
 // comes first, then whether the two regions share a line.
 pub fn asked(
-    verdict: Verdict,
+    answer: Answer,
     width: u16,
     height: u16,
     side: &[u16],
     parent: &[u16],
     a: u16,
     b: u16,
-) -> Joined
-    requires { ⌜ (verdict ≡ Verdict.Done → within width height ≡ true) ⌝ }
-    ensures { λ r. ⌜
-        r ≡
-        asked verdict (named (now (parent .entry)) a b)
-        (some (slots width height) (shared (now (side .entry)) (reversal width) a b))
-        ⌝ }
+) -> Answer
+    requires { ⌜ (numberOf answer ≡ 0 → within width height ≡ true) ⌝ }
+    ensures { λ r. ⌜ numberOf r ≡ asked answer width height (now (side .entry)) (now (parent .entry)) a b ⌝ }
 {
-    let Verdict::Done = verdict else {
-        return answer::refused(verdict);
-    };
-    let named = answer::check_names(parent, a, b);
-    let Joined::Done = named else {
-        return named;
-    };
-    if !adjoin::adjoin(width, height, side, a, b) {
-        return Joined::Apart;
+    if answer.number() != 0 {
+        return answer;
     }
-    Joined::Done
+    let named = check_names(parent, a, b);
+    if named.number() != 0 {
+        return named;
+    }
+    if !adjoin::adjoin(width, height, side, a, b) {
+        return Answer::Apart;
+    }
+    Answer::Done
 }

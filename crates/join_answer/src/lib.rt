@@ -1,4 +1,3 @@
-// Two names of a drawing: what joining answers to them, and whether they share a line.
-pub mod adjoin;
-pub mod answer;
+// What joining answers to two names of a drawing, and whether they share a line.
+mod adjoin;
 pub mod asked;

@@ -1,38 +1,35 @@
 -- The outcomes of joining, after a check of the drawing.
 --   merged w h t a b ws == the outcome of joining a and b in the tables t with the work tables ws
---   named p a b     == the answer to the names a and b by the table p of parents
+--   asked v w h s p a b == the number after a check that answered v, of the names a and b by the sides s and the parents p
 use mathlib.Core.Path.{_≡_, refl, sym, ap, ap₂, _∙_}
-use mathlib.Core.Bool.{Bool, true, false, cond, not, _&&_, _||_}
-use mathlib.Core.List.{List, [], _∷_}
-use mathlib.Core.Logic.{inl, inr, _≢_}
+use mathlib.Core.Bool.{Bool, true, false, not, _&&_, _||_}
+use mathlib.Core.List.{List, [], _∷_, _++_}
+use mathlib.Core.Logic.{_≢_}
 use Prim.Native.Nat.{ℕ}
 use native.Mathlib.Omega.{arith}
-use lib.Dec.{eqb}
+use lib.Dec.{eqb, lit<, lit≤}
 use lib.ListN.{length, replicate, length-replicate}
-use borrow.Author.Tests.{eqb-true, eqb-false, not-false}
-use types.Run.{OneOf}
-use denote.Enum.Declared.{tagOf}
+use borrow.Author.Tests.{eqb-true, eqb-false, eq-eqb, ne-eqb, not-true, not-false}
+use Rattle.laws.specs.First.{firstFailed, numbered}
+use Rattle.laws.proofs.First.{Passed, all-passed, failed-from}
 use Rattle.laws.proofs.Test.{and-left, and-right}
 use Rattle.sheet_size.specs.Size.{within}
 use Rattle.paper.specs.Drawing.{Tables, Drawn}
 use Rattle.paper.specs.Joining.{joined}
-use Rattle.paper.specs.Refusal.{outcome, sized, stated, cleared, five, used, adjoin, joinRefusal, merged}
+use Rattle.paper.specs.Refusal.{sized, stated, cleared, five, used, adjoin, givenTests, nameTests, joinRefusal, merged}
 use Rattle.paper.specs.Sitting.{Joinable}
 use Rattle.paper_laws.proofs.IsDrawing.{is-drawing-drawn}
-use Rattle.check_answer.specs.declared.answer.Verdict.{Verdict}
-use Rattle.drawing.specs.Answer.{left}
-use Rattle.check_answer.specs.Answer.{answer, answered}
-use Rattle.check_answer.specs.Check.{checked}
-use Rattle.check_answer.proofs.Refusing.{accepted-done}
-use Rattle.check_answer.proofs.Refusing.{tag-number, refused-stops}
-use Rattle.check_answer.proofs.Refusing.{accepted-within, accepted-stated, accepted-is-drawing, accepted-work, accepted-on}
-use Rattle.join_answer.specs.declared.answer.Joined.{Joined}
-use Rattle.join_answer.specs.Answer.{number, refused, named, asked}
-use Rattle.join_answer.proofs.Asking.{Other, other-not-done, zero-done, done-asked}
+use Rattle.answer.specs.declared.Answer.{Answer}
+use Rattle.answer.specs.Answer.{numberOf, told}
+use Rattle.answer.proofs.Outcome.{work-left, work-cleared, told-refused, told-done}
 use Rattle.table_lengths.specs.Given.{works}
+use Rattle.check_answer.specs.Check.{checked}
+use Rattle.check_answer.proofs.Given.{given-number, given-work, accepted-within, accepted-stated, accepted-is-drawing}
+use Rattle.check_answer.proofs.Given.{accepted-work, accepted-on, refused-on}
+use Rattle.join_answer.specs.Asked.{asked}
 use Rattle.join_rule.specs.Apply.{pair, Ready}
-use Rattle.join_call.specs.Faithful.{Faithful}
 use Rattle.join_rule.proofs.Readiness.{drawn-ready}
+use Rattle.join_call.specs.Faithful.{Faithful}
 use Rattle.join_call.proofs.Afresh.{joined-faithful}
 
 -- Work tables that are cleared are as long as they were, and clearing them again changes nothing.
@@ -56,166 +53,117 @@ rest-cleared : (a b c d x y : List ℕ) → works a b c d ≡ cleared (works a b
 unfolding cleared
 rest-cleared a b c d x y e f = cc
 
--- The answer to the names, by its three tests.
-abbrev answers : Bool → Bool → Bool → Joined
-answers p q r = cond p Joined.Outside (cond q Joined.Equal (cond r Joined.Name Joined.Done))
-
-abbrev numbers : Bool → Bool → Bool → ℕ → ℕ
-numbers p q r x = cond p 6 (cond q 7 (cond r 8 x))
-
-answers-refused : (p q r : Bool) (x : ℕ) (o : Joined) (ts us ws : List (List ℕ)) → o ≡ answers p q r → o ≢ Joined.Done
-    → left (number o) [] ts (cleared ws) ≡ outcome (numbers p q r x) [] ts us ws
-unfolding number outcome
-answers-refused true q r x o ts us ws e n = rw e
-answers-refused false true r x o ts us ws e n = rw e
-answers-refused false false true x o ts us ws e n = rw e
-answers-refused false false false x o ts us ws e n = absurd (n e)
-
-answers-done : (p q r : Bool) → Joined.Done ≡ answers p q r → (p ≡ false) × (q ≡ false) × (r ≡ false)
-unfolding number
-answers-done true q r e = absurd (omega (arith, ap number e))
-answers-done false true r e = absurd (omega (arith, ap number e))
-answers-done false false true e = absurd (omega (arith, ap number e))
-answers-done false false false e = (refl, refl, refl)
-
 or-neither : (p q : Bool) → (p || q) ≡ false → (p ≡ false) × (q ≡ false)
 or-neither true q e = absurd (let z : _≡_ {A = ℕ} 0 1 = cc in omega arith)
 or-neither false q e = (refl, e)
 
--- the answer after a check has the number of its verdict
-same-number : (v : Verdict) → number (refused v) ≡ answer v
-unfolding number refused
-same-number Verdict.Done = refl
-same-number Verdict.Size = refl
-same-number Verdict.Tables = refl
-same-number Verdict.Drawing = refl
+-- Joining a and b in the tables t after a check that answered v and left the work tables vs, where the names are answered by o:
+-- what is promised of the tables u and the work tables xs that it leaves with the answer r.
+module _ (w h : ℕ) (t : Tables) (a b : ℕ) (ws vs : List (List ℕ)) (v : Answer) (c : told v (five t) vs ≡ checked w h t ws)
+    (o : Answer) (e : numberOf o ≡ asked v w h (t .side1) (t .parent) a b) where
+  abbrev Promised : Answer → Tables → List (List ℕ) → Type 0
+  Promised r u xs = (told r (five u) xs ≡ merged w h t a b ws) × (numberOf r ≡ 0 → Faithful w h t u a b)
 
--- Joining a and b in the tables t after a check that left the work tables vs: what is promised of the tables u and the
--- work tables xs that it leaves with the answer o.
-module _ (w h : ℕ) (t : Tables) (a b : ℕ) (ws vs : List (List ℕ)) where
-  abbrev Promised : Joined → Tables → List (List ℕ) → Type 0
-  Promised o u xs = (left (number o) [] (five u) xs ≡ merged w h t a b ws) × (number o ≡ 0 → Faithful w h t u a b)
+  -- the tests of the names, after those of the check
+  abbrev tests : List (Bool × ℕ)
+  tests = nameTests (t .parent) a b ++ (adjoin w h (t .side1) a b, 9) ∷ []
 
-  abbrev outside : Bool
-  outside = eqb a 0 || eqb b 0
+  tests-numbered : numbered 6 10 tests ≡ true
+  unfolding numbered nameTests
+  tests-numbered = refl
 
-  abbrev unused : Bool
-  unused = not (used t a && used t b)
+  -- the check refuses
+  module _ (n : numberOf v ≢ 0) where
+    refused-number : joinRefusal w h t a b ws ≡ firstFailed (givenTests w h t ws)
+    unfolding joinRefusal
+    refused-number = refused-on w h t ws v vs c n tests
 
-  abbrev rest : ℕ
-  rest = numbers outside (eqb a b) unused (cond (not (adjoin w h t a b)) 9 0)
+    refused-asked : numberOf o ≡ joinRefusal w h t a b ws
+    unfolding asked
+    refused-asked = rw (ne-eqb (numberOf v) 0 n) at e ∙ given-number w h t ws v vs c ∙ sym refused-number
 
-  check-refused : (v : Verdict) → OneOf (1 ∷ 2 ∷ 3 ∷ []) (tagOf Rattle.check_answer.proofs.answer.Verdict.the-type v)
-      → answered v (five t) vs ≡ checked w h t ws → (o : Joined) → o ≡ refused v → Promised o t vs
-  unfolding answered merged joinRefusal
-  check-refused v p e o q =
-      let (j, s) = tag-number v p in
-      let n : number o ≡ answer v = ap number q ∙ same-number v in
-      (rw n (refused-stops w h t ws vs v rest [] (five (joined w h t a b)) p e), λ z. absurd (omega (arith, n, s, z)))
+    refused-work : vs ≡ work-left (joinRefusal w h t a b ws) ws
+    refused-work = given-work w h t ws v vs c ∙ ap (λ k. work-left k ws) (sym refused-number)
 
-  -- it accepts
-  module _ (v : Verdict) (d : v ≡ Verdict.Done) (c : answered v (five t) vs ≡ checked w h t ws) where
-    accepts : answered Verdict.Done (five t) vs ≡ checked w h t ws
-    accepts = accepted-done w h t ws vs v d c
+  -- the check accepts
+  module _ (z : numberOf v ≡ 0) where
+    accepted-number : joinRefusal w h t a b ws ≡ firstFailed tests
+    unfolding joinRefusal
+    accepted-number = accepted-on w h t ws v vs c z tests
+
+    accepted-asked : numberOf o ≡ joinRefusal w h t a b ws
+    unfolding asked
+    accepted-asked = rw (eq-eqb (numberOf v) 0 z) at e ∙ sym accepted-number
+
+    accepted-left : vs ≡ work-left (joinRefusal w h t a b ws) ws
+    accepted-left =
+        accepted-work w h t ws v vs c z
+        ∙ sym (work-cleared (joinRefusal w h t a b ws) ws (rw accepted-number (λ n. omega (arith, failed-from 6 10 tests tests-numbered n))))
+
+  both-asked : (k : Bool) → eqb (numberOf v) 0 ≡ k
+      → (numberOf o ≡ joinRefusal w h t a b ws) × (vs ≡ work-left (joinRefusal w h t a b ws) ws)
+  both-asked true p = let z = eqb-true (numberOf v) 0 p in (accepted-asked z, accepted-left z)
+  both-asked false p = let n = eqb-false (numberOf v) 0 p in (refused-asked n, refused-work n)
+
+  pub asked-stops : numberOf o ≢ 0 → Promised o t vs
+  unfolding merged
+  asked-stops n =
+      let (m, l) = both-asked (eqb (numberOf v) 0) refl in (
+        told-refused o (joinRefusal w h t a b ws) m n [] (five t) (five (joined w h t a b)) ws vs l,
+        λ z. absurd (n z),
+      )
+
+  -- Nothing is refused.
+  module _ (z : numberOf o ≡ 0) where
+    check-done : numberOf v ≡ 0
+    check-done = by (eqb (numberOf v) 0) refl
+      where
+        by : (k : Bool) → eqb (numberOf v) 0 ≡ k → numberOf v ≡ 0
+        by true p = eqb-true (numberOf v) 0 p
+        by false p =
+            let n = eqb-false (numberOf v) 0 p in
+            absurd (n (given-number w h t ws v vs c ∙ sym (refused-number n) ∙ sym (refused-asked n) ∙ z))
 
     size : within w h ≡ true
-    size = accepted-within w h t ws vs accepts
+    size = accepted-within w h t ws v vs c check-done
 
     drawn : Drawn w h t
-    drawn = is-drawing-drawn w h t (accepted-is-drawing w h t ws vs accepts)
+    drawn = is-drawing-drawn w h t (accepted-is-drawing w h t ws v vs c check-done)
 
     work : vs ≡ cleared ws
-    work = accepted-work w h t ws vs accepts
+    work = accepted-work w h t ws v vs c check-done
 
-    goes-on : joinRefusal w h t a b ws ≡ rest
-    unfolding joinRefusal
-    goes-on = accepted-on w h t ws vs accepts rest
+    passed : Passed tests
+    passed = all-passed 6 10 (lit< tt) tests tests-numbered (sym (accepted-number check-done) ∙ sym (accepted-asked check-done) ∙ z)
 
-    -- the names are refused
-    names-refused : (o : Joined) → o ≡ named (t .parent) a b → Other o → Promised o t vs
-    unfolding merged named used
-    names-refused o e p =
-        let n = other-not-done o p in
-        let x : ℕ = cond (not (adjoin w h t a b)) 9 0 in (
-          rw (goes-on, work)
-              (answers-refused outside (eqb a b) unused x o (five t) (five (joined w h t a b)) ws e n),
-          λ z. absurd (n (zero-done o z)),
+    joinable : Joinable w h t a b
+    unfolding nameTests
+    joinable =
+        let p = passed in
+        let (x, y) = or-neither (eqb a 0) (eqb b 0) (not-true (eqb a 0 || eqb b 0) (p .0)) in
+        let u : Bool = used (t .parent) a in
+        let q : Bool = used (t .parent) b in
+        record {
+          inner = (eqb-false a 0 x, eqb-false b 0 y);
+          apart = eqb-false a b (not-true (eqb a b) (p .1 .0));
+          regions = (and-left u q (p .1 .1 .0), and-right u q (p .1 .1 .0));
+          neighbours = p .1 .1 .1 .0;
+        }
+
+    pub asked-ready : Ready w h t vs a b
+    asked-ready =
+        let l = accepted-stated w h t ws v vs c check-done in
+        let r = joinable .regions in
+        drawn-ready w h t vs a b size (rw (work, cleared-stated) l) drawn (r .0) (r .1)
+
+    pub asked-joined : (c d e f x y : List ℕ) → vs ≡ works c d e f → (u : Tables) → u ≡ joined w h t a b
+        → pair x y ≡ cleared (pair c d) → Promised Answer.Done u (works x y e f)
+    unfolding merged numberOf
+    asked-joined c d e f x y s u p q =
+        let m : works c d e f ≡ cleared ws = sym s ∙ work in
+        let r : works c d e f ≡ cleared (works c d e f) = m ∙ sym (cleared-twice ws) ∙ ap cleared (sym m) in
+        let l : works x y e f ≡ cleared ws = rest-cleared c d e f x y r q ∙ ap cleared m ∙ cleared-twice ws in (
+          told-done Answer.Done (joinRefusal w h t a b ws) (sym z ∙ accepted-asked check-done) refl (five t) (five (joined w h t a b)) ws
+              (five u) (works x y e f) (ap five p) l,
+          λ y. joined-faithful w h t u a b size drawn joinable p,
         )
-
-    -- or they are two regions
-    module _ (g : named (t .parent) a b ≡ Joined.Done) where
-      tested : (outside ≡ false) × (eqb a b ≡ false) × (unused ≡ false)
-      unfolding named used
-      tested = answers-done outside (eqb a b) unused (sym g)
-
-      both : (used t a ≡ true) × (used t b ≡ true)
-      both =
-          let u = not-false (used t a && used t b) (tested .2) in
-          (and-left (used t a) (used t b) u, and-right (used t a) (used t b) u)
-
-      regions-apart : adjoin w h t a b ≡ false → Promised Joined.Apart t vs
-      unfolding merged number outcome
-      regions-apart n = let k = tested in (rw (goes-on, work, k .0, k .1, k .2, n), λ z. absurd (omega arith))
-
-      regions-ready : Ready w h t vs a b
-      regions-ready =
-          let l = accepted-stated w h t ws vs accepts in
-          drawn-ready w h t vs a b size (rw (work, cleared-stated) l) drawn (both .0) (both .1)
-
-      -- that share a line
-      module _ (n : adjoin w h t a b ≡ true) where
-        regions-joinable : Joinable w h t a b
-        regions-joinable =
-            let (p, q) = or-neither (eqb a 0) (eqb b 0) (tested .0) in
-            record {
-              inner = (eqb-false a 0 p, eqb-false b 0 q);
-              apart = eqb-false a b (tested .1);
-              regions = both;
-              neighbours = n;
-            }
-
-        regions-joined : (c d e f x y : List ℕ) → vs ≡ works c d e f → (u : Tables) → u ≡ joined w h t a b
-            → pair x y ≡ cleared (pair c d) → Promised Joined.Done u (works x y e f)
-        unfolding merged number outcome
-        regions-joined c d e f x y s u p q =
-            let k = tested in
-            let m : works c d e f ≡ cleared ws = sym s ∙ work in
-            let r : works c d e f ≡ cleared (works c d e f) = m ∙ sym (cleared-twice ws) ∙ ap cleared (sym m) in
-            let l : works x y e f ≡ cleared ws = rest-cleared c d e f x y r q ∙ ap cleared m ∙ cleared-twice ws in (
-              rw (goes-on, k .0, k .1, k .2, n, p, l),
-              λ z. joined-faithful w h t u a b size drawn regions-joinable p,
-            )
-
-  -- The answer o to the names after the verdict v.
-  module _ (v : Verdict) (c : answered v (five t) vs ≡ checked w h t ws) (o : Joined)
-      (q : o ≡ asked v (named (t .parent) a b) (adjoin w h t a b)) where
-    pub asked-stops : Other o → Promised o t vs
-    unfolding asked
-    asked-stops p = stops v c q
-      where
-        named-stops : (k s : Bool) → answered Verdict.Done (five t) vs ≡ checked w h t ws
-            → eqb (number (named (t .parent) a b)) 0 ≡ k → adjoin w h t a b ≡ s
-            → o ≡ cond k (cond s Joined.Done Joined.Apart) (named (t .parent) a b) → Promised o t vs
-        named-stops false s e f g r = names-refused Verdict.Done refl e o r p
-        named-stops true true e f g r = absurd (other-not-done o p r)
-        named-stops true false e f g r =
-            rw r
-            (regions-apart Verdict.Done refl e (zero-done (named (t .parent) a b) (eqb-true (number (named (t .parent) a b)) 0 f)) g)
-
-        stops : (u : Verdict) → answered u (five t) vs ≡ checked w h t ws
-            → o ≡ asked u (named (t .parent) a b) (adjoin w h t a b) → Promised o t vs
-        stops Verdict.Done e r = named-stops (eqb (number (named (t .parent) a b)) 0) (adjoin w h t a b) e refl refl r
-        stops Verdict.Size e r = check-refused Verdict.Size (inl refl) e o r
-        stops Verdict.Tables e r = check-refused Verdict.Tables (inr (inl refl)) e o r
-        stops Verdict.Drawing e r = check-refused Verdict.Drawing (inr (inr refl)) e o r
-
-    module _ (f : o ≡ Joined.Done) where
-      all : (v ≡ Verdict.Done) × (named (t .parent) a b ≡ Joined.Done) × (adjoin w h t a b ≡ true)
-      all = done-asked v (named (t .parent) a b) (adjoin w h t a b) (sym f ∙ q)
-
-      pub asked-ready : Ready w h t vs a b
-      asked-ready = regions-ready v (all .0) c (all .1)
-
-      pub asked-joined : (c d e f x y : List ℕ) → vs ≡ works c d e f → (u : Tables) → u ≡ joined w h t a b
-          → pair x y ≡ cleared (pair c d) → Promised Joined.Done u (works x y e f)
-      asked-joined = regions-joined v (all .0) c (all .1) (all .2)

@@ -1,13 +1,11 @@
+use answer::Answer;
 use check_call::check;
-use join_answer::answer::Joined;
 use join_answer::asked;
 use join_rule::apply;
 ghost use mathlib.Core.Path.{_≡_};
-ghost use mathlib.Core.List.{[]};
 ghost use Rattle.paper.specs.Refusal.{five, merged};
+ghost use Rattle.answer.specs.Answer.{numberOf, told};
 ghost use Rattle.table_lengths.specs.Given.{tables, works};
-ghost use Rattle.drawing.specs.Answer.{left};
-ghost use Rattle.join_answer.specs.Answer.{number};
 ghost use Rattle.join_call.specs.Faithful.{Faithful};
 
 // Joins the regions a and b of a drawing, in its five tables, which come to equal the drawing afresh. Refusals 1, 4, 5,
@@ -27,9 +25,9 @@ pub fn join(
     work_b: &mut [u16],
     work_c: &mut [u16],
     work_d: &mut [u16],
-) -> Joined
+) -> Answer
     ensures { λ r. ⌜
-        (left (number r) []
+        (told r
         (five
         (tables (now (next1 .exit)) (now (side1 .exit)) (now (next3 .exit)) (now (other3 .exit)) (now (parent .exit))))
         (works (now («work_a» .exit)) (now («work_b» .exit)) (now («work_c» .exit)) (now («work_d» .exit))) ≡
@@ -38,7 +36,7 @@ pub fn join(
         a
         b
         (works (now («work_a» .entry)) (now («work_b» .entry)) (now («work_c» .entry)) (now («work_d» .entry)))) ×
-        (number r ≡ 0 →
+        (numberOf r ≡ 0 →
         Faithful width height
         (tables (now (next1 .entry)) (now (side1 .entry)) (now (next3 .entry)) (now (other3 .entry)) (now (parent .entry)))
         (tables (now (next1 .exit)) (now (side1 .exit)) (now (next3 .exit)) (now (other3 .exit)) (now (parent .exit)))
@@ -46,7 +44,7 @@ pub fn join(
         b)
         ⌝ }
 {
-    let verdict = check::check(
+    let checked = check::check(
         width,
         height,
         next1,
@@ -59,10 +57,10 @@ pub fn join(
         work_c,
         work_d,
     );
-    let answer = asked::asked(verdict, width, height, side1, parent, a, b);
-    let Joined::Done = answer else {
+    let answer = asked::asked(checked, width, height, side1, parent, a, b);
+    if answer.number() != 0 {
         return answer;
-    };
+    }
     apply::apply(
         width,
         height,
@@ -76,5 +74,5 @@ pub fn join(
         work_a,
         work_b,
     );
-    Joined::Done
+    Answer::Done
 }

@@ -1,13 +1,11 @@
 -- A drawing is ready for the joining of two regions that it has.
 use mathlib.Core.Path.{_≡_, refl, _∙_}
-use mathlib.Core.Bool.{Bool, true, false, _&&_}
+use mathlib.Core.Bool.{Bool, true}
 use mathlib.Core.List.{List, [], _∷_}
 use Prim.Native.Nat.{ℕ, _+_, _*_, _<_}
 use native.Mathlib.Omega.{arith}
-use lib.Dec.{eqb}
-use lib.ListN.{length}
 use borrow.Author.Tests.{eq-eqb}
-use Rattle.laws.proofs.Test.{and-true, and-left, and-right}
+use Rattle.laws.proofs.Test.{and-true, and-left}
 use Rattle.sheet_size.specs.Size.{within}
 use Rattle.laws.specs.Table.{table}
 use Rattle.point_darts.specs.Dart.{mark, slots, reversal}
@@ -19,7 +17,7 @@ use Rattle.paper.specs.Refusal.{sized, stated, used}
 use Rattle.paper_laws.proofs.Sheet.{border-below}
 use Rattle.paper_laws.proofs.Marks.{on-marked, cells-slots, within-fits, names-side-small}
 use Rattle.table_lengths.specs.Given.{tables, works}
-use Rattle.table_lengths.proofs.Tested.{Long, stated-long, stated-parent}
+use Rattle.table_lengths.proofs.Tested.{stated-parent, stated-slots}
 use Rattle.join_shared.specs.Mapped.{Mapped, Bare}
 use Rattle.join_rule.specs.Apply.{pair, Ready}
 use Rattle.join_rule.proofs.Fewer.{marked-held, on-below}
@@ -72,35 +70,21 @@ drawn-ready w h t ws a b e f g u v =
     }
 
 -- Two work tables, the first of four.
-first-thrice : (e d : Bool) → (e && d) ≡ true → (e && (e && (e && d))) ≡ true
-first-thrice true d h = h
-first-thrice false d h = h
-
--- the five tables have the stated lengths
-abbrev five-stated : ℕ → ℕ → Tables → Bool
-five-stated w h t =
-    sized (slots w h) (t .next1 ∷ t .side1 ∷ t .next3 ∷ t .other3 ∷ []) && sized (w * h + 1) (t .parent ∷ [])
-
-pub pair-long : (w h : ℕ) (x s y o p a d : List ℕ) → stated w h (tables x s y o p) (pair a d) ≡ true
-    → Long w h (length x) (length s) (length y) (length o) (length p) (length a) (length a) (length a) (length d)
-unfolding stated sized
-pair-long w h x s y o p a d e =
-    let five = five-stated w h (tables x s y o p) in
-    let both : Bool = sized (slots w h) (pair a d) in
-    stated-long w h x s y o p a a a d
-    (and-true {a = five} (and-left five both e)
-    (first-thrice (eqb (length a) (slots w h)) (eqb (length d) (slots w h) && true) (and-right five both e)))
-
 pub ready-pair : (w h : ℕ) (x s y o p a b c d : List ℕ) (i j : ℕ) → Ready w h (tables x s y o p) (works a b c d) i j
     → Ready w h (tables x s y o p) (pair a b) i j
 unfolding stated sized
 ready-pair w h x s y o p a b c d i j r =
-    let five = five-stated w h (tables x s y o p) in
-    let z = stated-long w h x s y o p a b c d (r .sizes) .work in
+    let names : Bool = sized (w * h + 1) (p ∷ []) in
+    let z = stated-slots w h (tables x s y o p) (works a b c d) (r .sizes) in
+    let work = z .1 .1 .1 .1 in
     record {
       size = r .size;
-      sizes = and-true {a = five} (and-left five (sized (slots w h) (works a b c d)) (r .sizes))
-          (and-true (eq-eqb _ _ (z .0)) (and-true (eq-eqb _ _ (z .1)) refl));
+      sizes = and-true {a = names} (and-left names (sized (slots w h) (x ∷ s ∷ y ∷ o ∷ works a b c d)) (r .sizes))
+          (and-true (eq-eqb _ _ (z .0))
+          (and-true (eq-eqb _ _ (z .1 .0))
+          (and-true (eq-eqb _ _ (z .1 .1 .0))
+          (and-true (eq-eqb _ _ (z .1 .1 .1 .0))
+          (and-true (eq-eqb _ _ (work .0)) (and-true (eq-eqb _ _ (work .1 .0)) refl))))));
       first = r .first;
       second = r .second;
       sided = r .sided;

@@ -2,14 +2,19 @@
 --   slotted o l     == the outcome o with its values in a slot that held l, after the other tables
 --   slottedTwice o s k == the outcome o with its values in two slots: when done in the one that held s, refused in the one
 --                      that held k
-use mathlib.Core.Path.{_≡_, sym}
+use mathlib.Core.Path.{_≡_, sym, ap, _∙_}
 use mathlib.Core.List.{List, [], _∷_, _++_}
-use Prim.Native.Nat.{ℕ}
+use mathlib.Core.Logic.{_≢_}
+use Prim.Native.Nat.{ℕ, zero, suc}
+use native.Mathlib.Omega.{arith}
+use lib.ListN.{length}
 use borrow.Author.Tests.{ne-eqb}
-use Rattle.paper.specs.Refusal.{Outcome}
-use Rattle.count_answer.specs.declared.answer.Count.{Count}
-use Rattle.drawing.specs.Answer.{left}
-use Rattle.count_answer.specs.Answer.{count, values, counted}
+use Rattle.paper.specs.Enclosure.{depth, holes}
+use Rattle.paper.specs.Drawing.{Tables}
+use Rattle.paper.specs.Refusal.{Outcome, outcome, five, countRefusal, deepened, holed}
+use Rattle.count_answer.specs.declared.Count.{Count}
+use Rattle.answer.specs.Answer.{numberOf, left}
+use Rattle.count_answer.specs.Count.{countNumber, values, counted}
 use Rattle.deck_card.specs.declared.answer.Read.{Read}
 use Rattle.deck_card.specs.Outcome.{readOutcome}
 use Rattle.deck_reading.specs.Reading.{reading}
@@ -17,16 +22,29 @@ use Rattle.deck_reading.proofs.One.{refused-some}
 use Rattle.raimenolta_values.specs.Put.{countHeld, refusal, sizeHeld, cardHeld}
 use Rattle.raimenolta.specs.Slot.{done, stopped, slotted, slottedTwice, carded}
 
+-- the outcome of a count that is done has its value
+valued : (k x : ℕ) (ts us ws : List (List ℕ)) → outcome k (x ∷ []) ts us ws .number ≡ 0 → outcome k (x ∷ []) ts us ws .values ≢ []
+unfolding outcome
+valued zero x ts us ws e q = omega (arith, ap length q)
+valued (suc k) x ts us ws e q = omega (arith, e)
+
+module _ (w h : ℕ) (t : Tables) (r : ℕ) (ws : List (List ℕ)) where
+  pub depth-valued : deepened w h t r ws .number ≡ 0 → deepened w h t r ws .values ≢ []
+  unfolding deepened
+  depth-valued = valued (countRefusal w h t r ws) (depth (t .parent) r) (five t) (five t) ws
+
+  pub holes-valued : holed w h t r ws .number ≡ 0 → holed w h t r ws .values ≢ []
+  unfolding holed
+  holes-valued = valued (countRefusal w h t r ws) (holes (t .parent) r) (five t) (five t) ws
+
 -- A count's answer, with its value in a slot.
 module _ (ts ws : List (List ℕ)) (o : Outcome) (l n v : ℕ) where
-  pub count-slotted : (r : Count) → n ≡ count r → v ≡ countHeld r l → counted r ts ws ≡ o
+  pub count-slotted : (r : Count) → n ≡ countNumber r → v ≡ countHeld r l → counted r ts ws ≡ o → (o .number ≡ 0 → o .values ≢ [])
       → left n [] (ts ++ (v ∷ []) ∷ []) ws ≡ slotted o (l ∷ [])
-  unfolding counted values slotted done countHeld
-  count-slotted (Count.Is i) p q e = rw (← e, p, q)
-  count-slotted Count.Size p q e = rw (← e, p, q)
-  count-slotted Count.Tables p q e = rw (← e, p, q)
-  count-slotted Count.Drawing p q e = rw (← e, p, q)
-  count-slotted Count.Name p q e = rw (← e, p, q)
+  unfolding counted countNumber values slotted done countHeld
+  count-slotted (Count.Is i) p q e f = rw (← e, p, q)
+  count-slotted (Count.Refused r) p q e f =
+      rw (← e, p, q, ne-eqb (numberOf r) 0 (λ z. f (ap (λ (u : Outcome). u .number) (sym e) ∙ z) (ap (λ (u : Outcome). u .values) (sym e))))
 
 -- The reader's answer, with the size in one slot and the card in another.
 module _ (d t u s z : List ℕ) (k n y : ℕ) where

@@ -11,7 +11,7 @@ use Prim.Native.Nat.{ℕ}
 use lib.Dec.{eqb}
 use Rattle.paper.specs.Refusal.{Outcome}
 use Rattle.deck_card.specs.Outcome as cards
-use Rattle.drawing.specs.Answer.{left}
+use Rattle.answer.specs.Answer.{left}
 
 unfoldable pub done : Outcome → List ℕ → List ℕ
 done o l = cond (eqb (o .number) 0) (o .values) l

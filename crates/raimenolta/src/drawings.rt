@@ -6,7 +6,7 @@ ghost use Rattle.paper.specs.Refusal.{five, merged, deepened, holed};
 ghost use Rattle.table_lengths.specs.Given.{tables, works};
 ghost use Rattle.check_answer.specs.Check.{checked};
 ghost use Rattle.count_call.specs.Tally.{tallied};
-ghost use Rattle.drawing.specs.Answer.{left};
+ghost use Rattle.answer.specs.Answer.{left};
 ghost use Rattle.join_call.specs.Faithful.{Faithful};
 ghost use Rattle.raimenolta.specs.Slot.{slotted};
 
@@ -35,7 +35,7 @@ pub extern "C" fn raimenolta_check(
         (works (now («work_a» .entry)) (now («work_b» .entry)) (now («work_c» .entry)) (now («work_d» .entry)))
         ⌝ }
 {
-    let verdict = check::check(
+    let answer = check::check(
         width,
         height,
         next1,
@@ -48,7 +48,7 @@ pub extern "C" fn raimenolta_check(
         work_c,
         work_d,
     );
-    raimenolta_values::check::number(verdict)
+    answer.number()
 }
 
 // Joins the regions a and b of a drawing, in its five tables, which come to equal the drawing afresh. Refusals 1, 4, 5, 6,
@@ -248,5 +248,5 @@ pub extern "C" fn raimenolta_counts(
         work_c,
         work_d,
     );
-    raimenolta_values::check::number(answer)
+    answer.number()
 }

@@ -3,7 +3,7 @@ ghost use mathlib.Core.Path.{_≡_};
 ghost use mathlib.Core.List.{[], _∷_};
 ghost use Rattle.paper.specs.Refusal.{levelled, five, mapped};
 ghost use Rattle.table_lengths.specs.Given.{tables, works};
-ghost use Rattle.drawing.specs.Answer.{left};
+ghost use Rattle.answer.specs.Answer.{left};
 
 // Draws a level of a sheet: next, other and side. Refusals 1, 2, 3 and 4.
 #[no_mangle]

@@ -5,15 +5,12 @@
 --   cardHeld a k    == what the slot of the card, which held k, holds after it
 use mathlib.Core.List.{List, [], _∷_}
 use Prim.Native.Nat.{ℕ}
-use Rattle.count_answer.specs.declared.answer.Count.{Count}
+use Rattle.count_answer.specs.declared.Count.{Count}
 use Rattle.deck_card.specs.declared.answer.Read.{Read}
 
 unfoldable pub countHeld : Count → ℕ → ℕ
 countHeld (Count.Is n) v = n
-countHeld Count.Size v = v
-countHeld Count.Tables v = v
-countHeld Count.Drawing v = v
-countHeld Count.Name v = v
+countHeld (Count.Refused r) v = v
 
 unfoldable pub refusal : Read → ℕ
 refusal (Read.Sheet w h) = 0

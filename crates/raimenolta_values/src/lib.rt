@@ -1,4 +1,3 @@
 // What an answer tells a caller in another language, who takes no enum: its number, and its values in lent slots.
-pub mod check;
 pub mod count;
 pub mod read;

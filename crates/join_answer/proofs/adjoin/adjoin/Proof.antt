@@ -7,6 +7,7 @@ use Rattle.laws.proofs.Table.{none-some, found-some}
 use Rattle.point_darts.specs.Dart.{reversal}
 use Rattle.point_darts.proofs.Fit.{dart-fits}
 use Rattle.paper.specs.Joining.{shared}
+use Rattle.paper.specs.Refusal.{adjoin}
 use Rattle.join_answer.proofs.adjoin.adjoin.Statement.{statement}
 use Rattle.join_answer.proofs.adjoin.adjoin.Tie as tie
 
@@ -28,6 +29,7 @@ is-between-requires c κs =
     dart-fits _ _ (s .before .before .pre) _ (s .slots .ensures) _ (c .loop-test .taken)
 
 returns : tie.Need-returns Inv-loop μ-loop
+unfolding adjoin
 returns c =
     let l = c .before .before in
     sym (found-some _ _ _ (omega (arith, l .loop-test .taken, l .before .before .slots .ensures))
@@ -43,6 +45,7 @@ loop-again : tie.Need-loop-again Inv-loop μ-loop
 loop-again c = below-more _ _ (c .before .before .before .loop .inv) (sym (c .before .is-between .ensures) ∙ c .if1 .left)
 
 returns-2 : tie.Need-returns-2 Inv-loop μ-loop
+unfolding adjoin
 returns-2 c =
     let e = c .before .before .slots .ensures in
     sym (none-some _ _ (λ k b. c .before .loop .inv k (omega (arith, e, c .loop-test .left))))

@@ -6,10 +6,10 @@ use lib.ListN.{length, drop}
 use lib.Seq.{length-take-le, length-front}
 use Rattle.point_darts.specs.Dart.{slots}
 use Rattle.paper_laws.proofs.Marks.{within-fits}
+use Rattle.table_lengths.proofs.Tested.{stated-parent, stated-slots}
 use Rattle.join_darts.specs.Listed.{bounds, Lined}
 use Rattle.join_darts.proofs.Listing.{bounded-all, bounded-on}
 use Rattle.join_rule.proofs.Applying.{all-steps, pair-cleared}
-use Rattle.join_rule.proofs.Readiness.{pair-long}
 use Rattle.join_rule.proofs.apply.apply.Statement.{statement}
 use Rattle.join_rule.proofs.apply.apply.Tie as tie
 
@@ -48,8 +48,8 @@ end c = settled (backless (cleared c))
 list-long : (c : tie.After-list-darts)
     → length (c .list-darts .last .1 .1 .1 .0) ≡ slots (start c .args .width) (start c .args .height)
 list-long c =
-    let z = pair-long _ _ _ _ _ _ _ _ _ (start c .pre .sizes) in
-    c .list-darts .kept .1 .1 .1 .0 ∙ z .work .3
+    let z = stated-slots _ _ _ _ (start c .pre .sizes) in
+    c .list-darts .kept .1 .1 .1 .0 ∙ z .1 .1 .1 .1 .1 .0
 
 -- It has the darts of a and b.
 abbrev lined-bounds : (c : tie.After-list-darts)
@@ -73,22 +73,22 @@ work-room c = omega (arith, narrow-long (narrowed (curved c)), c .points .ensure
 list-darts-requires : tie.Need-list-darts-requires
 list-darts-requires c κs =
     let q = c .before .before .before .before .before .before .before .before .before .pre in
-    let z = pair-long _ _ _ _ _ _ _ _ _ (q .sizes) in
-    (z .lines .1 ∙ sym (z .work .3), omega (arith, z .work .3, within-fits _ _ (q .size)))
+    let z = stated-slots _ _ _ _ (q .sizes) in
+    (z .1 .0 ∙ sym (z .1 .1 .1 .1 .1 .0), omega (arith, z .1 .1 .1 .1 .1 .0, within-fits _ _ (q .size)))
 
 remove-plain-shared-requires : tie.Need-remove-plain-shared-requires
 remove-plain-shared-requires c κs =
     let l = c .before .before .before .before .before .before in
     let q = start l .pre in
-    let z = pair-long _ _ _ _ _ _ _ _ _ (q .sizes) in (
+    let z = stated-slots _ _ _ _ (q .sizes) in (
       q .size,
       q .first,
       q .second,
-      z .lines .1,
+      z .1 .0,
       list-long l,
-      z .lines .0,
-      z .work .0,
-      bounded-all _ _ _ _ _ _ _ (rw (z .work .3) at (l .list-darts .ensures)),
+      z .0,
+      z .1 .1 .1 .1 .0,
+      bounded-all _ _ _ _ _ _ _ (rw (z .1 .1 .1 .1 .1 .0) at (l .list-darts .ensures)),
       q .plain,
     )
 
@@ -96,10 +96,10 @@ narrow-requires : tie.Need-narrow-requires
 narrow-requires c κs =
     let l = listed (c .before .before .before .before .before .before) in
     let q = start l .pre in
-    let z = pair-long _ _ _ _ _ _ _ _ _ (q .sizes) in
+    let z = stated-slots _ _ _ _ (q .sizes) in
     let e = list-long l in (
       omega (arith, e, within-fits _ _ (q .size)),
-      z .lines .2 ∙ sym e,
+      z .1 .1 .0 ∙ sym e,
       lined-bounds l,
     )
 
@@ -108,14 +108,14 @@ remove-shared-requires c κs =
     let m = c .before .before .before .before .before .before in
     let l = listed (plain m) in
     let q = start l .pre in
-    let z = pair-long _ _ _ _ _ _ _ _ _ (q .sizes) in (
+    let z = stated-slots _ _ _ _ (q .sizes) in (
       within-fits _ _ (q .size),
       q .first,
       q .second,
-      z .lines .1,
+      z .1 .0,
       narrow-long m,
-      z .lines .2,
-      z .lines .3,
+      z .1 .1 .0,
+      z .1 .1 .1 .0,
       bounded-on _ _ _ _ _ _ _ (rw (list-long l) at (m .narrow .ensures (lined-bounds l))),
       q .curves,
       q .bare,
@@ -139,12 +139,12 @@ settle-requires c κs =
     let e = curved n in
     let p = plain (narrowed e) in
     let q = start (listed p) .pre in
-    let z = pair-long _ _ _ _ _ _ _ _ _ (q .sizes) in (
+    let z = stated-slots _ _ _ _ (q .sizes) in (
       q .size,
-      p .remove-plain-shared .kept .1 .1 .1 .1 .1 .1 .1 .0 ∙ z .lines .0,
-      z .lines .1,
-      e .remove-shared .kept .1 .1 .1 .1 .1 .1 .1 .0 ∙ z .lines .2,
-      z .names,
+      p .remove-plain-shared .kept .1 .1 .1 .1 .1 .1 .1 .0 ∙ z .0,
+      z .1 .0,
+      e .remove-shared .kept .1 .1 .1 .1 .1 .1 .1 .0 ∙ z .1 .1 .0,
+      stated-parent _ _ _ _ (q .sizes),
       length-take-le _ _ (work-room n) ∙ n .points .ensures,
     )
 
@@ -195,8 +195,8 @@ returns c =
     let e = curved (sized s) in
     let p = plain (narrowed e) in
     let a = start (listed p) in
-    let z = pair-long _ _ _ _ _ _ _ _ _ (a .pre .sizes) in (
-      all-steps _ _ _ _ _ _ _ _ _ (a .pre .first) (a .pre .second) (z .lines .1) (a .pre .sided) _ _ _ _ _ _
+    let z = stated-slots _ _ _ _ (a .pre .sizes) in (
+      all-steps _ _ _ _ _ _ _ _ _ (a .pre .first) (a .pre .second) (z .1 .0) (a .pre .sided) _ _ _ _ _ _
           (p .remove-plain-shared .ensures) (e .remove-shared .ensures) (s .settle .ensures .0) (s .settle .ensures .1)
           (s .settle .ensures .2),
       pair-cleared _ _ _ _ _ _ (backless (cleared c) .clear .ensures) (cleared c .clear2 .ensures)
