@@ -40,8 +40,10 @@ module _ (v : Answer) (w h : ℕ) (s p : List ℕ) (a b : ℕ) where
           rw (eq-eqb (numberOf v) 0 z)
           (passed-append 6 9 (lit< tt) (nameTests p a b) last (names-numbered p a b) (sym e ∙ y))
 
-      pub asked-apart : not t ≡ true → 9 ≡ asked v w h s p a b
+      pub asked-apart : not t ≡ true → numberOf Answer.Apart ≡ asked v w h s p a b
+      unfolding numberOf
       asked-apart i = sym (goes-on ∙ failed-here _ 9 [] (sym g ∙ not-true t i))
 
-      pub asked-done : not t ≡ false → 0 ≡ asked v w h s p a b
+      pub asked-done : not t ≡ false → numberOf Answer.Done ≡ asked v w h s p a b
+      unfolding numberOf
       asked-done i = sym (goes-on ∙ failed-later _ 9 [] (sym g ∙ not-false t i) ∙ none-left)

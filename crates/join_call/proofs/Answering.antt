@@ -16,7 +16,7 @@ use Rattle.laws.proofs.Test.{and-left, and-right}
 use Rattle.sheet_size.specs.Size.{within}
 use Rattle.paper.specs.Drawing.{Tables, Drawn}
 use Rattle.paper.specs.Joining.{joined}
-use Rattle.paper.specs.Refusal.{sized, stated, cleared, five, used, adjoin, givenTests, nameTests, joinRefusal, merged}
+use Rattle.paper.specs.Refusal.{sized, stated, cleared, five, used, adjoin, sizeTests, givenTests, nameTests, joinRefusal, merged}
 use Rattle.paper.specs.Sitting.{Joinable}
 use Rattle.paper_laws.proofs.IsDrawing.{is-drawing-drawn}
 use Rattle.answer.specs.declared.Answer.{Answer}
@@ -44,7 +44,7 @@ cleared-sized n [] = refl
 cleared-sized n (t ∷ ts) = ap₂ _&&_ (ap (λ k. eqb k n) (length-replicate (length t) 0)) (cleared-sized n ts)
 
 cleared-stated : (w h : ℕ) (t : Tables) (ws : List (List ℕ)) → stated w h t (cleared ws) ≡ stated w h t ws
-unfolding stated
+unfolding stated sized
 cleared-stated w h t ws = rw cleared-sized
 
 -- where all four are cleared, and then the first two again
@@ -75,7 +75,7 @@ module _ (w h : ℕ) (t : Tables) (a b : ℕ) (ws vs : List (List ℕ)) (v : Ans
   -- the check refuses
   module _ (n : numberOf v ≢ 0) where
     refused-number : joinRefusal w h t a b ws ≡ firstFailed (givenTests w h t ws)
-    unfolding joinRefusal
+    unfolding joinRefusal givenTests sizeTests nameTests
     refused-number = refused-on w h t ws v vs c n tests
 
     refused-asked : numberOf o ≡ joinRefusal w h t a b ws
@@ -88,7 +88,7 @@ module _ (w h : ℕ) (t : Tables) (a b : ℕ) (ws vs : List (List ℕ)) (v : Ans
   -- the check accepts
   module _ (z : numberOf v ≡ 0) where
     accepted-number : joinRefusal w h t a b ws ≡ firstFailed tests
-    unfolding joinRefusal
+    unfolding joinRefusal givenTests sizeTests nameTests
     accepted-number = accepted-on w h t ws v vs c z tests
 
     accepted-asked : numberOf o ≡ joinRefusal w h t a b ws
@@ -98,7 +98,9 @@ module _ (w h : ℕ) (t : Tables) (a b : ℕ) (ws vs : List (List ℕ)) (v : Ans
     accepted-left : vs ≡ work-left (joinRefusal w h t a b ws) ws
     accepted-left =
         accepted-work w h t ws v vs c z
-        ∙ sym (work-cleared (joinRefusal w h t a b ws) ws (rw accepted-number (λ n. omega (arith, failed-from 6 10 tests tests-numbered n))))
+        ∙ sym
+        (work-cleared (joinRefusal w h t a b ws) ws
+        (rw accepted-number (λ n. omega (arith, failed-from 6 10 tests tests-numbered n))))
 
   both-asked : (k : Bool) → eqb (numberOf v) 0 ≡ k
       → (numberOf o ≡ joinRefusal w h t a b ws) × (vs ≡ work-left (joinRefusal w h t a b ws) ws)

@@ -44,8 +44,8 @@ module _ (w h l : ℕ) (i : List ℕ) (ts ws : List (List ℕ)) (r : Answer)
   pub refused : numberOf r ≢ 0 → told r ts ws ≡ levelled w h l i ts ws
   unfolding levelled levelRefusal
   refused n =
-      told-early r (levelRefusal w h l i ts ws) number n (failed-below 1 5 (levelTests w h l (length i) _) (lit< tt) (below w h l (length i) _)) []
-      ts (levelTables w h l i) ws
+      told-early r (levelRefusal w h l i ts ws) number n
+      (failed-below 1 5 (levelTests w h l (length i) _) (lit< tt) (below w h l (length i) _)) [] ts (levelTables w h l i) ws
 
   pub done : numberOf r ≡ 0 → (us vs : List (List ℕ)) → us ≡ levelTables w h l i → vs ≡ cleared ws
       → told Answer.Done us vs ≡ levelled w h l i ts ws

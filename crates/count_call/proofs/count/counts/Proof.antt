@@ -58,7 +58,8 @@ returns-2 c =
     let a = c .before in
     let k = checked a in
     let s = sized k in
-    tally-refused _ _ _ _ _ _ _ (s .before .refusal .ensures) (sym (s .number .ensures) ∙ k .before .before .before .before .before .if1 .left) _ _ (k .check .ensures)
+    let z = sym (s .number .ensures) ∙ k .before .before .before .before .before .if1 .left in
+    tally-refused _ _ _ _ _ _ _ (s .before .refusal .ensures) z _ _ (k .check .ensures)
     (λ z. c .if2 .taken (a .number2 .ensures ∙ z))
 
 count-all-requires : tie.Need-count-all-requires
@@ -66,7 +67,8 @@ count-all-requires c κs =
     let a = c .before .before .before in
     let k = checked a in
     let s = sized k in
-    let l = tally-long _ _ _ _ _ (s .before .refusal .ensures) (sym (s .number .ensures) ∙ k .before .before .before .before .before .if1 .left) in
+    let z = sym (s .number .ensures) ∙ k .before .before .before .before .before .if1 .left in
+    let l = tally-long _ _ _ _ _ (s .before .refusal .ensures) z in
     accepted-all _ _ _ _ _ _ (k .check .ensures) (sym (a .number2 .ensures) ∙ c .before .before .if2 .left) _ _ (l .0) (l .1 .0)
 
 same-length-5 : tie.Need-same-length-5
@@ -93,7 +95,8 @@ returns-3 c =
     let a = answered e in
     let k = checked a in
     let s = sized k in
-    tally-done _ _ _ _ _ _ _ (s .before .refusal .ensures) (sym (s .number .ensures) ∙ k .before .before .before .before .before .if1 .left) _ _ (k .check .ensures)
+    let z = sym (s .number .ensures) ∙ k .before .before .before .before .before .if1 .left in
+    tally-done _ _ _ _ _ _ _ (s .before .refusal .ensures) z _ _ (k .check .ensures)
     (sym (a .number2 .ensures) ∙ e .before .before .before .if2 .left) _ _ (e .count-all .ensures .0) (e .count-all .ensures .1)
 
 pub counts-spec : {M : Type 1} → statement M

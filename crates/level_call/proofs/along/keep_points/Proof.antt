@@ -21,7 +21,9 @@ same-length-3 : tie.Need-same-length-3
 same-length-3 c = (c .before .before .before .before .keep-anchors .kept .1 .1 .1 .1 .1 .0)
 
 returns-2 : tie.Need-returns-2
-returns-2 c = keeps-points _ _ _ _ _ _ (c .before .before .before .before .before .before .before .if1 .left) (c .before .before .before .before .keep-anchors .ensures)
+returns-2 c =
+    let e = c .before .before .before .before in
+    keeps-points _ _ _ _ _ _ (e .before .before .before .if1 .left) (e .keep-anchors .ensures)
 
 pub keep-points-spec : {M : Type 1} → statement M
 keep-points-spec =

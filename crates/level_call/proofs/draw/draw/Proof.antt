@@ -31,7 +31,8 @@ returns c =
 fill-requires : tie.Need-fill-requires
 fill-requires c κs =
     let k = c .before .before .before .before .before .before .before .before in
-    let (w, l, s, t) = all-fit _ _ _ _ _ _ (answered k .refusal .ensures) (sym (k .number .ensures) ∙ c .before .before .before .before .before .before .before .if1 .left) in
+    let z = sym (k .number .ensures) ∙ c .before .before .before .before .before .before .before .if1 .left in
+    let (w, l, s, t) = all-fit _ _ _ _ _ _ (answered k .refusal .ensures) z in
     (w, l, s, t .0, t .1 .0, t .1 .1 .0, t .1 .1 .1 .0, t .1 .1 .1 .1 .0, t .1 .1 .1 .1 .1 .0, t .1 .1 .1 .1 .1 .1 .0)
 
 same-length : tie.Need-same-length
@@ -59,8 +60,8 @@ returns-2 : tie.Need-returns-2
 returns-2 c =
     let f = filled c in
     let k = numbered f in
-    done _ _ _ _ _ _ _ (answered k .refusal .ensures) (sym (k .number .ensures) ∙ f .before .before .before .before .before .before .before .before .if1 .left) _ _ (f .fill .ensures .0)
-    (f .fill .ensures .1)
+    let z = sym (k .number .ensures) ∙ f .before .before .before .before .before .before .before .before .if1 .left in
+    done _ _ _ _ _ _ _ (answered k .refusal .ensures) z _ _ (f .fill .ensures .0) (f .fill .ensures .1)
 
 pub draw-spec : {M : Type 1} → statement M
 draw-spec =

@@ -4,7 +4,9 @@ use Rattle.raimenolta.proofs.drawings.raimenolta_join.Statement.{statem
 use Rattle.raimenolta.proofs.drawings.raimenolta_join.Tie as tie
 
 abbrev joined : tie.After-number → tie.After-join
-joined c = c .before .before .before .before .before .before .before .before .before .before .before .before .before .before .before .before .before .before .before
+joined c =
+    let k = c .before .before .before .before .before .before .before .before .before .before in
+    k .before .before .before .before .before .before .before .before .before
 
 join-requires : tie.Need-join-requires
 join-requires c κs = search needs

@@ -4,7 +4,9 @@ use Rattle.raimenolta.proofs.sheets.raimenolta_draw.Statement.{statemen
 use Rattle.raimenolta.proofs.sheets.raimenolta_draw.Tie as tie
 
 abbrev drawn : tie.After-number → tie.After-draw
-drawn c = c .before .before .before .before .before .before .before .before .before .before .before .before .before .before .before .before .before .before .before
+drawn c =
+    let k = c .before .before .before .before .before .before .before .before .before .before in
+    k .before .before .before .before .before .before .before .before .before
 
 draw-requires : tie.Need-draw-requires
 draw-requires c κs = search needs
