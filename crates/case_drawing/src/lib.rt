@@ -2,19 +2,13 @@
 use case_sheets::lengths::Lengths;
 use case_sheets::lengths::Size;
 use case_sheets::lent;
+use case_tables::tables::Answered;
 use case_tables::tables::Tables;
 use case_tables::tables::Works;
 ghost use Rattle.case_sheets.specs.Room.{Fits};
 
-// What drawing a sheet answered: the refusal's number, and the tables after it.
-pub struct Drawn {
-    pub number: u16,
-    pub tables: Tables,
-    pub works: Works,
-}
-
 // Draws a sheet into tables of these lengths, with work tables that are not clear.
-pub fn draw(size: Size, sheet: &[u16], lengths: Lengths) -> Drawn
+pub fn draw(size: Size, sheet: &[u16], lengths: Lengths) -> Answered
     requires { ⌜ Fits lengths ⌝ }
 {
     let x = lengths.next1;
@@ -49,7 +43,7 @@ pub fn draw(size: Size, sheet: &[u16], lengths: Lengths) -> Drawn
         &mut c[..kc],
         &mut d[..kd],
     );
-    Drawn {
+    Answered {
         number: answer.number(),
         tables: Tables {
             next1,

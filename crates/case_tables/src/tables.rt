@@ -20,6 +20,13 @@ pub struct Works {
     pub d: [u16; lent::ROOM],
 }
 
+// What a call answered: its number, and the tables after it.
+pub struct Answered {
+    pub number: u16,
+    pub tables: Tables,
+    pub works: Works,
+}
+
 // The entries of a table up to a length.
 pub fn front(table: &[u16; lent::ROOM], length: usize) -> &[u16] {
     lent::part(table, 0, length)

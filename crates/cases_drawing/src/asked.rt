@@ -12,8 +12,8 @@ use point_darts::dart;
 ghost use Prim.Native.Nat.{_≤_};
 ghost use Rattle.case_sheets.specs.Room.{room, Fits};
 
-// What the judge answered: its number, and the work tables after it.
-pub struct Judged {
+// What the check answered: its number, and the work tables after it.
+pub struct Checked {
     pub number: u16,
     pub works: Works,
 }
@@ -33,8 +33,8 @@ pub struct Counted {
     pub works: Works,
 }
 
-// Asks the judge of tables of these lengths, with work tables that are not clear.
-fn judge_of(size: Size, lengths: Lengths, tables: Tables) -> Judged
+// Asks the check of tables of these lengths, with work tables that are not clear.
+fn check_of(size: Size, lengths: Lengths, tables: Tables) -> Checked
     requires { ⌜ Fits lengths ⌝ }
 {
     let ka = lengths.a;
@@ -63,7 +63,7 @@ fn judge_of(size: Size, lengths: Lengths, tables: Tables) -> Judged
         &mut c[..kc],
         &mut d[..kd],
     );
-    Judged {
+    Checked {
         number: answer.number(),
         works: Works { a, b, c, d },
     }
@@ -75,15 +75,15 @@ fn show_end(number: u16, lengths: Lengths, works: Works) {
     show::line_end();
 }
 
-// What the judge answers.
-pub(crate) fn judge(size: Size, lengths: Lengths, tables: Tables)
+// What the check answers.
+pub(crate) fn check(size: Size, lengths: Lengths, tables: Tables)
     requires { ⌜ Fits lengths ⌝ }
 {
-    let judged = judge_of(size, lengths, tables);
-    let works = judged.works;
-    show::text(b"judge");
-    show::label(judged.number);
-    show_end(judged.number, lengths, works);
+    let checked = check_of(size, lengths, tables);
+    let works = checked.works;
+    show::text(b"check");
+    show::label(checked.number);
+    show_end(checked.number, lengths, works);
 }
 
 // Writes name, depth and hole count of each name that has them.

@@ -28,7 +28,7 @@ pub(crate) fn run(size: Size, name: u16, list: &[u16]) {
     let depths = lent::length(list, 5);
     let holes = lent::length(list, 6);
     let tables = tables::given(list, lent::from(list, 11));
-    asked::judge(size, lengths, tables);
+    asked::check(size, lengths, tables);
     asked::counts(size, true, depths, holes, lengths, tables);
     asked::depth(size, name, lengths, tables);
     asked::holes(size, name, lengths, tables);

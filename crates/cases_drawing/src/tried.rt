@@ -1,6 +1,5 @@
 use crate::asked;
 use crate::given;
-use case_drawing::Drawn;
 use case_sheets::lengths;
 use case_sheets::lengths::Lengths;
 use case_sheets::lengths::Size;
@@ -8,6 +7,7 @@ use case_sheets::lent;
 use case_sheets::made;
 use case_tables::show;
 use case_tables::tables;
+use case_tables::tables::Answered;
 use case_tables::tables::Tables;
 use table_entries::entry;
 ghost use Rattle.case_sheets.specs.Room.{Fits};
@@ -22,7 +22,7 @@ fn show_tables(number: u16, full: bool, lengths: Lengths, tables: Tables) {
 }
 
 // Writes what drawing a sheet answered.
-fn show_drawn(full: bool, lengths: Lengths, drawn: Drawn) {
+fn show_drawn(full: bool, lengths: Lengths, drawn: Answered) {
     let tables = drawn.tables;
     let works = drawn.works;
     show::text(b"drawing");

@@ -3,6 +3,7 @@ use case_sheets::lengths::Size;
 use case_sheets::lent;
 use case_tables::show;
 use case_tables::tables;
+use case_tables::tables::Answered;
 use case_tables::tables::Tables;
 use case_tables::tables::Works;
 use join_call::regions;
@@ -10,15 +11,14 @@ use table_entries::entry;
 ghost use Prim.Native.Nat.{_≤_};
 ghost use Rattle.case_sheets.specs.Room.{Fits};
 
-// What a join answered: its number, and the tables after it.
-pub struct Joined {
-    pub number: u16,
-    pub tables: Tables,
-    pub works: Works,
-}
-
 // Joins two names in tables of these lengths, with work tables that are not clear.
-pub(crate) fn join(size: Size, first: u16, second: u16, lengths: Lengths, tables: Tables) -> Joined
+pub(crate) fn join(
+    size: Size,
+    first: u16,
+    second: u16,
+    lengths: Lengths,
+    tables: Tables,
+) -> Answered
     requires { ⌜ Fits lengths ⌝ }
 {
     let x = lengths.next1;
@@ -54,7 +54,7 @@ pub(crate) fn join(size: Size, first: u16, second: u16, lengths: Lengths, tables
         &mut c[..kc],
         &mut d[..kd],
     );
-    Joined {
+    Answered {
         number: answer.number(),
         tables: Tables {
             next1,
@@ -69,7 +69,7 @@ pub(crate) fn join(size: Size, first: u16, second: u16, lengths: Lengths, tables
 
 // Writes what a join answered: its number, of a refusal whether the five tables are as they were, and how the work tables
 // are left.
-fn show_answer(lengths: Lengths, before: Tables, joined: Joined) {
+fn show_answer(lengths: Lengths, before: Tables, joined: Answered) {
     let number = joined.number;
     let tables = joined.tables;
     let works = joined.works;

@@ -26,7 +26,7 @@ pub struct Lengths {
 }
 
 // What drawing a level answered: the refusal's number, and the tables after it.
-pub struct Drawn {
+pub struct Answered {
     pub number: u16,
     pub next: [u16; lent::ROOM],
     pub other: [u16; lent::ROOM],
@@ -53,7 +53,7 @@ fn lengths_of(lengths: &[u16]) -> Lengths
 }
 
 // Draws a level of a sheet into tables of these lengths.
-fn draw(case: Case, sheet: &[u16], lengths: Lengths) -> Drawn
+fn draw(case: Case, sheet: &[u16], lengths: Lengths) -> Answered
     requires { ⌜
         (lengths .next ≤ room) × (lengths .other ≤ room) × (lengths .side ≤ room) × (lengths .a ≤ room) ×
         (lengths .b ≤ room) × (lengths .c ≤ room) × (lengths .d ≤ room)
@@ -86,7 +86,7 @@ fn draw(case: Case, sheet: &[u16], lengths: Lengths) -> Drawn
         &mut c[..kc],
         &mut d[..kd],
     );
-    Drawn {
+    Answered {
         number: answer.number(),
         next,
         other,
@@ -96,7 +96,7 @@ fn draw(case: Case, sheet: &[u16], lengths: Lengths) -> Drawn
 }
 
 // Whether the result tables are as they were.
-fn untouched(drawn: Drawn) -> bool {
+fn untouched(drawn: Answered) -> bool {
     if !tables::untouched(&drawn.next) {
         return false;
     }
@@ -107,7 +107,7 @@ fn untouched(drawn: Drawn) -> bool {
 }
 
 // The result tables of a level that was drawn, in full or their sums; of a refusal, whether they are as they were.
-fn show_tables(full: bool, lengths: Lengths, drawn: Drawn) {
+fn show_tables(full: bool, lengths: Lengths, drawn: Answered) {
     if drawn.number == 0 {
         show::table(tables::front(&drawn.next, lengths.next), full);
         show::table(tables::front(&drawn.other, lengths.other), full);
@@ -118,7 +118,7 @@ fn show_tables(full: bool, lengths: Lengths, drawn: Drawn) {
 }
 
 // Writes what drawing a level answered.
-fn show_drawn(full: bool, lengths: Lengths, drawn: Drawn) {
+fn show_drawn(full: bool, lengths: Lengths, drawn: Answered) {
     let works = drawn.works;
     show::text(b"level");
     show::label(drawn.number);

@@ -1,7 +1,7 @@
 use Rattle.case_sheets.specs.Room.{room}
 use Rattle.table_entries.proofs.Front.{blank-in, blank-front}
-use Rattle.cases_drawing.proofs.asked.judge_of.Statement.{statement}
-use Rattle.cases_drawing.proofs.asked.judge_of.Tie as tie
+use Rattle.cases_drawing.proofs.asked.check_of.Statement.{statement}
+use Rattle.cases_drawing.proofs.asked.check_of.Tie as tie
 
 -- The way back to the start: from the five tables taken out, from their fronts, and from each table lent after them.
 abbrev from-taken : tie.After-parent → tie.Start
@@ -70,8 +70,8 @@ number-requires c κs = tt
 returns : tie.Need-returns
 returns c = tt
 
-pub judge-of-spec : {M : Type 1} → statement M
-judge-of-spec =
+pub check-of-spec : {M : Type 1} → statement M
+check-of-spec =
     tie.close
     (tie.spec
     front-requires
