@@ -27,16 +27,9 @@ close-point-requires c κs =
     let p = i .before .before in
     let q = p .before .before .before .before .before .before .pre in
     let b = i .loop-test .taken in
-    let (fit, below) = darts-fit _ _ (q .0) _ (p .points .ensures) _ b in (
-      q .1,
-      fit,
-      rw (q .2) below,
-      rw (q .3) below,
-      rw
-          (i .before .loop .inv .nexts, q .4) below,
-      omega (arith, q .5, p .points .ensures),
-      q .6,
-    )
+    let e = p .points .ensures in
+    let (fit, below) = darts-fit _ _ (q .0) _ e _ b in
+    (q .1, fit, rw (q .2) below, rw (q .3) below, rw (i .before .loop .inv .nexts, q .4) below, omega (arith, q .5, e), q .6)
 
 add-p : tie.Need-add-p Inv-loop μ-loop
 add-p c = omega (arith, c .before .before .before .before .before .before .before .loop-test .taken)

@@ -43,8 +43,8 @@ returns : tie.Need-returns
 returns c = λ g.
     let n = c .before .before .before .before in
     let w = n .before .before in
-    tied-by _ _ _ _ _ _ _ _ (rw (← (w .before .leaving .ensures)) (w .toward .ensures))
-    (rw (← (n .before .leaving2 .ensures)) (n .toward2 .ensures)) (c .before .before .plant .ensures g)
+    tied-by _ _ _ _ _ _ _ _ (rw (w .before .leaving .ensures) at (w .toward .ensures))
+    (rw (n .before .leaving2 .ensures) at (n .toward2 .ensures)) (c .before .before .plant .ensures g)
 
 pub grow-spec : {M : Type 1} → statement M
 grow-spec =
