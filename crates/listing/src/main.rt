@@ -7,6 +7,7 @@ use deck_card::answer::Read;
 use deck_card::card::LONG;
 use deck_reading::read::CELLS;
 use libc::STDIN_FILENO;
+use point_darts::dart;
 ghost use mathlib.Core.Path.{_≡_};
 ghost use mathlib.Core.Bool.{true};
 ghost use Prim.Native.Nat.{_*_, _≤_};
@@ -159,7 +160,7 @@ fn slots_of(width: u16, height: u16) -> usize
     requires { ⌜ within width height ≡ true ⌝ }
     ensures { λ r. ⌜ (r ≡ slots width height) × (r ≤ 21316) ⌝ }
 {
-    (4 * ((width + 1) * (height + 1))) as usize
+    dart::slots(width, height) as usize
 }
 
 // Lists a sheet, whose cells stand at the front of a table. A deck that is read gives a size; were it none, there would be
