@@ -204,7 +204,7 @@ static void make_sheets(int kind, int n) {
 
 static double most_draw, most_join, most_core;
 
-/* The join's times, in drawings: with its judging and without. */
+/* The join's times, in drawings: with its check and without. */
 static void count_join(struct times our) {
     if (our.join / our.draw > most_join) most_join = our.join / our.draw;
     if ((our.join - our.check) / our.draw > most_core) most_core = (our.join - our.check) / our.draw;
@@ -250,15 +250,15 @@ static void growth(void) {
 }
 
 int main(void) {
-    printf("| sheet, 72 by 72 | drawing / plain | judging / plain | join / plain | judging / drawing | join / drawing "
-           "| join without its judging / drawing |\n|---|---|---|---|---|---|---|\n");
+    printf("| sheet, 72 by 72 | drawing / plain | check / plain | join / plain | check / drawing | join / drawing "
+           "| join without its check / drawing |\n|---|---|---|---|---|---|---|\n");
     for (int kind = 0; kind < KINDS; kind++) row(kind);
-    printf("\n| sheet; join with its judging, and without, in drawings | 4 by 4 | 9 by 9 | 18 by 18 | 36 by 36 |\n"
+    printf("\n| sheet; join with its check, and without, in drawings | 4 by 4 | 9 by 9 | 18 by 18 | 36 by 36 |\n"
            "|---|---|---|---|---|\n");
     for (int kind = 0; kind < KINDS; kind++) small_row(kind);
-    printf("\nA drawing takes at most %.2f times plain C (target 1.3); a join, its judging included, at most %.2f drawings "
-           "(target 3), without its judging %.2f (target 1).\n\n", most_draw, most_join, most_core);
-    printf("| 4 random labels | drawing, cost of a cell against 72 by 72 | judging | join |\n|---|---|---|---|\n");
+    printf("\nA drawing takes at most %.2f times plain C (target 1.3); a join, its check included, at most %.2f drawings "
+           "(target 3), without its check %.2f (target 1).\n\n", most_draw, most_join, most_core);
+    printf("| 4 random labels | drawing, cost of a cell against 72 by 72 | check | join |\n|---|---|---|---|\n");
     growth();
     return 0;
 }

@@ -1,8 +1,8 @@
-/* Drawing, judging and joining in plain C, written for speed and without proof.
+/* Drawing, checking and joining in plain C, written for speed and without proof.
  *
  * Union-find over the cells gives the names, union-find over the points the pieces, one pass each fills the tables, and
- * each curve of level 3 is walked once for its two ends. The judge reads the names off the sides, draws and compares.
- * A join judges, gives both regions one name and draws. Sizes and lengths are the caller's business. */
+ * each curve of level 3 is walked once for its two ends. The check reads the names off the sides, draws and compares.
+ * A join checks, gives both regions one name and draws. Sizes and lengths are the caller's business. */
 
 #include "plain.h"
 

@@ -574,7 +574,7 @@ pub fn draw_call(width: u16, height: u16, sheet: &[u16], five: &mut Five, works:
 }
 
 /// Refusals 1, 4 and 5, for the calls that are given a drawing; the size and the names otherwise.
-fn judged(
+fn checked(
     width: u16,
     height: u16,
     five: &Five,
@@ -595,12 +595,12 @@ fn is_named(names: &[u16], name: u16) -> bool {
 }
 
 pub fn check_call(width: u16, height: u16, five: &Five, works: &mut Works) -> u16 {
-    judged(width, height, five, |_| true, works).err().unwrap_or(0)
+    checked(width, height, five, |_| true, works).err().unwrap_or(0)
 }
 
 pub fn join_call(width: u16, height: u16, five: &mut Five, a: u16, b: u16, works: &mut Works) -> u16 {
-    let (size, names) = match judged(width, height, five, |_| true, works) {
-        Ok(judged) => judged,
+    let (size, names) = match checked(width, height, five, |_| true, works) {
+        Ok(checked) => checked,
         Err(number) => return number,
     };
     if a == 0 || b == 0 {
@@ -628,8 +628,8 @@ fn count_call(
     works: &mut Works,
     count: fn(&[u16], u16) -> u16,
 ) -> u16 {
-    let (_, names) = match judged(width, height, five, |_| true, works) {
-        Ok(judged) => judged,
+    let (_, names) = match checked(width, height, five, |_| true, works) {
+        Ok(checked) => checked,
         Err(number) => return number,
     };
     if name != 0 && !is_named(&names, name) {
@@ -657,7 +657,7 @@ pub fn counts_call(
     works: &mut Works,
 ) -> u16 {
     let fit = |size: Size| depths.len() == size.names() && all_holes.len() == size.names();
-    let names = match judged(width, height, five, fit, works) {
+    let names = match checked(width, height, five, fit, works) {
         Ok((_, names)) => names,
         Err(number) => return number,
     };
