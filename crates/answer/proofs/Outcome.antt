@@ -12,7 +12,7 @@ use lib.Dec.{ltb}
 use borrow.Author.Tests.{lt-ltb, le-ltb}
 use Rattle.paper.specs.Refusal.{outcome, cleared}
 use Rattle.answer.specs.declared.Answer.{Answer}
-use Rattle.answer.specs.Answer.{numberOf, left, told}
+use Rattle.answer.specs.Answer.{numberOf, ended, told}
 
 pub work-left : ℕ → List (List ℕ) → List (List ℕ)
 work-left zero ws = cleared ws
@@ -49,15 +49,15 @@ module _ (k : ℕ) (vs : List ℕ) (ts us ws : List (List ℕ)) where
       by (suc k) = refl
 
   -- an outcome that refuses, and one that is done
-  pub outcome-refused : k ≢ 0 → (xs : List (List ℕ)) → xs ≡ work-left k ws → left k [] ts xs ≡ outcome k vs ts us ws
+  pub outcome-refused : k ≢ 0 → (xs : List (List ℕ)) → xs ≡ work-left k ws → ended k [] ts xs ≡ outcome k vs ts us ws
   unfolding outcome work-left
   outcome-refused = by k
     where
-      by : (k : ℕ) → k ≢ 0 → (xs : List (List ℕ)) → xs ≡ work-left k ws → left k [] ts xs ≡ outcome k vs ts us ws
+      by : (k : ℕ) → k ≢ 0 → (xs : List (List ℕ)) → xs ≡ work-left k ws → ended k [] ts xs ≡ outcome k vs ts us ws
       by zero n xs e = absurd (n refl)
       by (suc k) n xs e = rw e
 
-  pub outcome-done : k ≡ 0 → (zs xs : List (List ℕ)) → zs ≡ us → xs ≡ cleared ws → left 0 vs zs xs ≡ outcome k vs ts us ws
+  pub outcome-done : k ≡ 0 → (zs xs : List (List ℕ)) → zs ≡ us → xs ≡ cleared ws → ended 0 vs zs xs ≡ outcome k vs ts us ws
   unfolding outcome
   outcome-done e zs xs p q = rw (e, p, q)
 
@@ -82,6 +82,6 @@ module _ (r : Answer) (k : ℕ) (e : numberOf r ≡ k) where
   unfolding told work-left outcome
   told-left ts ws xs p = rw e (by k p)
     where
-      by : (k : ℕ) → xs ≡ work-left k ws → left k [] ts xs ≡ outcome k [] ts ts ws
+      by : (k : ℕ) → xs ≡ work-left k ws → ended k [] ts xs ≡ outcome k [] ts ts ws
       by zero p = rw p
       by (suc k) p = rw p

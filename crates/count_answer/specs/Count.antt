@@ -14,7 +14,7 @@ use Rattle.point_darts.specs.Dart.{mark}
 use Rattle.region_depths.specs.Tree.{Falls}
 use Rattle.paper.specs.Refusal.{Outcome}
 use Rattle.answer.specs.declared.Answer.{Answer}
-use Rattle.answer.specs.Answer.{numberOf, left}
+use Rattle.answer.specs.Answer.{numberOf, ended}
 use Rattle.count_answer.specs.declared.Count.{Count}
 
 unfoldable pub countNumber : Count → ℕ
@@ -26,7 +26,7 @@ values (Count.Is v) = v ∷ []
 values (Count.Refused r) = []
 
 unfoldable pub counted : Count → List (List ℕ) → List (List ℕ) → Outcome
-counted r ts ws = left (countNumber r) (values r) ts ws
+counted r ts ws = ended (countNumber r) (values r) ts ws
 
 unfoldable pub after : Answer → Bool → ℕ → Count
 after v k x = cond (eqb (numberOf v) 0) (cond k (Count.Is x) (Count.Refused Answer.Name)) (Count.Refused v)

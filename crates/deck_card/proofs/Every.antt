@@ -13,7 +13,8 @@ use lib.ListN.{length, getD, take, drop, replicate, drop-of-length-le}
 use lib.Seq.{drop-cons, slice, slice-cons, slice-empty}
 use borrow.Author.Tests.{eqb-true, eq-eqb, ne-eqb, le-leb, lt-leb, leb-true}
 use Rattle.laws.proofs.Test.{and-left, and-right}
-use Rattle.deck_card.specs.Card.{blank, lowest, highest, every, same, between, visible}
+use Rattle.laws.specs.Every.{every}
+use Rattle.deck_card.specs.Card.{blank, lowest, highest, same, between, visible}
 
 -- A test of a range.
 pub between-below : (a b n : ℕ) → n < a → between a b n ≡ false
@@ -31,22 +32,6 @@ between-inside a b n h k = rw (le-leb a n h, le-leb n b k)
 pub visible-most : (n : ℕ) → visible n ≡ true → n ≤ highest
 unfolding visible between
 visible-most n e = leb-true n highest (and-right (leb lowest n) (leb n highest) e)
-
-module _ (p : ℕ → Bool) (l : List ℕ) where
-  -- an entry that fails: not every entry from there on passes
-  pub every-stop : (i : ℕ) → i < length l → p (getD l i 0) ≡ false → every p (drop i l) ≡ false
-  unfolding every
-  every-stop i h e = rw (drop-cons l i 0, e)
-
-  -- an entry that passes: the rest decides
-  pub every-go : (i : ℕ) → i < length l → p (getD l i 0) ≡ true → every p (drop (i + 1) l) ≡ every p (drop i l)
-  unfolding every
-  every-go i h e = rw (drop-cons l i 0, e, add-one)
-
-  -- no entry is left
-  pub every-end : (i : ℕ) → length l ≤ i → every p (drop i l) ≡ true
-  unfolding every
-  every-end i h = rw (drop-of-length-le l h)
 
 -- The lists l and m, both at least e long, from i up to e.
 module _ (l m : List ℕ) (e : ℕ) (h : e ≤ length l) (k : e ≤ length m) where

@@ -3,7 +3,6 @@
 --   places          == how many columns after those hold the digits of its number: columns 73 to 80
 --   long            == the length of a card, its line feed included
 --   blank, feed     == the bytes of a blank and of a line feed
---   every p l       == each entry of the list l passes the test p
 --   same a b        == the lists a and b are equal
 --   between a b n   == n is from a to b
 --   visible         == may stand in a cell: from the lowest such byte, 33, to the highest, 126
@@ -35,10 +34,6 @@ blank = 32
 
 unfoldable pub feed : ℕ
 feed = 10
-
-unfoldable pub every : (ℕ → Bool) → List ℕ → Bool
-every p [] = true
-every p (x ∷ l) = p x && every p l
 
 unfoldable pub same : List ℕ → List ℕ → Bool
 same [] [] = true

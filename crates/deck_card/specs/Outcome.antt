@@ -1,5 +1,5 @@
 -- What a call answers, and what the lent table holds afterwards (the paper, "Refusal numbers and their order").
---   Outcome         == the number of the refusal, 0 for done; the values; the lent table at the end
+--   DeckOutcome     == the number of the refusal, 0 for done; the values; the lent table at the end
 --   readOutcome r t == what the reader's answer r says, with the table t: of a sheet the width and the height, of a
 --                      refusal its number and the card's
 --   writeNumber r   == the number of the writer's answer r
@@ -11,12 +11,12 @@ use Rattle.deck_card.specs.declared.answer.Read.the-variants as read
 use Rattle.deck_card.specs.declared.answer.Written.{Written}
 use Rattle.deck_card.specs.declared.answer.Written.the-variants as written
 
-pub record Outcome : Type 0 where
+pub record DeckOutcome : Type 0 where
   pub number : ℕ
   pub values : List ℕ
   pub table : List ℕ
 
-unfoldable pub readOutcome : Read → List ℕ → Outcome
+unfoldable pub readOutcome : Read → List ℕ → DeckOutcome
 readOutcome (read.Sheet w h) t = record { number = 0; values = w ∷ h ∷ []; table = t }
 readOutcome (read.Refused n k) t = record { number = n; values = k ∷ []; table = t }
 
@@ -27,5 +27,5 @@ writeNumber written.Sheet = 3
 writeNumber written.Deck = 4
 writeNumber written.Label = 27
 
-unfoldable pub writeOutcome : Written → List ℕ → Outcome
+unfoldable pub writeOutcome : Written → List ℕ → DeckOutcome
 writeOutcome r t = record { number = writeNumber r; values = []; table = t }

@@ -11,7 +11,8 @@ use lib.ListN.{length, take}
 use lib.Seq.{slice}
 use Rattle.laws.proofs.Test.{and-left}
 use Rattle.sheet_size.specs.Size.{within}
-use Rattle.deck_card.specs.Card.{columns, places, blank, every, same, between, visible, card, whole}
+use Rattle.laws.specs.Every.{every}
+use Rattle.deck_card.specs.Card.{columns, places, blank, same, between, visible, card, whole}
 use Rattle.deck_card.specs.Layout.{heading}
 use Rattle.deck_card.proofs.Cards.{card-columns, card-number}
 use Rattle.deck_card.proofs.Headings.{heading-fits}

@@ -12,7 +12,8 @@ use borrow.Author.Tests.{ne-eqb}
 use Rattle.laws.proofs.Test.{and-right}
 use Rattle.sheet_size.specs.Size.{within}
 use Rattle.sheet_size.proofs.Limit.{within-limits}
-use Rattle.deck_card.specs.Card.{columns, places, long, blank, feed, every, same, visible, digit, digits, padded, card}
+use Rattle.laws.specs.Every.{every}
+use Rattle.deck_card.specs.Card.{columns, places, long, blank, feed, same, visible, digit, digits, padded, card}
 use Rattle.deck_card.specs.Card.{whole}
 use Rattle.deck_card.proofs.Parts.{is-whole, whole-is}
 use Rattle.deck_card.specs.Layout.{heading}

@@ -17,7 +17,8 @@ use Prim.Native.Nat.{ℕ, zero, suc, _+_, _*_, _-_}
 use lib.Dec.{eqb}
 use lib.ListN.{length, getD, take, drop}
 use Rattle.sheet_size.specs.Size.{within}
-use Rattle.deck_card.specs.Card.{columns, places, blank, every, same, between, visible, digits, padded, whole}
+use Rattle.laws.specs.Every.{every}
+use Rattle.deck_card.specs.Card.{columns, places, blank, same, between, visible, digits, padded, whole}
 use Rattle.deck_card.specs.Layout.{heading}
 
 unfoldable pub orElse : ℕ → ℕ → ℕ

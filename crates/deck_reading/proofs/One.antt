@@ -15,7 +15,8 @@ use Rattle.sheet_size.specs.Size.{within}
 use Rattle.deck_card.specs.declared.answer.Read.{Read}
 use Rattle.deck_card.specs.declared.answer.Read.the-variants as read
 use Rattle.deck_card.specs.declared.answer.Written.the-variants as written
-use Rattle.deck_card.specs.Card.{columns, long, every, visible, card, part}
+use Rattle.laws.specs.Every.{every}
+use Rattle.deck_card.specs.Card.{columns, long, visible, card, part}
 use Rattle.deck_card.specs.Outcome.{readOutcome, writeOutcome}
 use Rattle.deck_card.proofs.Outcomes.{read-one, write-one}
 use Rattle.deck_card.proofs.Parts.{part-held}

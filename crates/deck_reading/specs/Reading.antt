@@ -12,7 +12,7 @@ use lib.ListN.{length, take, drop, replicate}
 use Rattle.deck_card.specs.declared.answer.Read.{Read}
 use Rattle.deck_card.specs.declared.answer.Read.the-variants.{Sheet, Refused}
 use Rattle.deck_card.specs.Card.{long, part}
-use Rattle.deck_card.specs.Outcome.{Outcome, readOutcome}
+use Rattle.deck_card.specs.Outcome.{DeckOutcome, readOutcome}
 use Rattle.deck_card.specs.Layout.{rowCards, held}
 use Rattle.deck_reading.specs.Judging.{judged}
 
@@ -30,7 +30,7 @@ unfoldable pub tableAfter : Read → List ℕ → List ℕ → List ℕ
 tableAfter (Sheet w h) d t = filled (cells w (rowCards w h) 2 (drop long d))
 tableAfter (Refused n k) d t = t
 
-unfoldable pub reading : List ℕ → List ℕ → Outcome
+unfoldable pub reading : List ℕ → List ℕ → DeckOutcome
 reading d t =
     let r = judged d in
     cond (eqb (length t) room) (readOutcome r (tableAfter r d t)) (readOutcome (Refused 26 0) t)

@@ -14,7 +14,8 @@ use lib.Seq.{length-take-le, take-all, take-at, drop-drop}
 use borrow.Author.Tests.{eq-eqb, ne-eqb}
 use Rattle.sheet_size.specs.Size.{within}
 use Rattle.deck_card.specs.declared.answer.Written.the-variants.{Done, Size, Sheet, Deck, Label}
-use Rattle.deck_card.specs.Card.{columns, long, every, visible, card}
+use Rattle.laws.specs.Every.{every}
+use Rattle.deck_card.specs.Card.{columns, long, visible, card}
 use Rattle.deck_card.specs.Outcome.{writeOutcome}
 use Rattle.deck_card.specs.Layout.{heading, rowCards, held}
 use Rattle.deck_card.proofs.Cards.{length-card}

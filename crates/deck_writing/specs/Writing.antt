@@ -13,8 +13,9 @@ use lib.ListN.{length, take, drop}
 use Rattle.sheet_size.specs.Size.{within}
 use Rattle.deck_card.specs.declared.answer.Written.{Written}
 use Rattle.deck_card.specs.declared.answer.Written.the-variants.{Done, Size, Sheet, Deck, Label}
-use Rattle.deck_card.specs.Card.{long, every, visible, card}
-use Rattle.deck_card.specs.Outcome.{Outcome, writeOutcome}
+use Rattle.laws.specs.Every.{every}
+use Rattle.deck_card.specs.Card.{long, visible, card}
+use Rattle.deck_card.specs.Outcome.{DeckOutcome, writeOutcome}
 use Rattle.deck_card.specs.Layout.{heading, rowCards, held}
 
 unfoldable pub rowDeck : ℕ → ℕ → ℕ → List ℕ → List ℕ
@@ -45,7 +46,7 @@ bytesAfter Sheet d t = t
 bytesAfter Deck d t = t
 bytesAfter Label d t = t
 
-unfoldable pub writing : ℕ → ℕ → List ℕ → List ℕ → Outcome
+unfoldable pub writing : ℕ → ℕ → List ℕ → List ℕ → DeckOutcome
 writing w h s t =
     let r = written w h s (length t) in
     let d = deckOf w h s in

@@ -1,7 +1,8 @@
 // Labels that may stand on a card.
 use deck_card::card;
 ghost use mathlib.Core.Path.{_≡_};
-ghost use Rattle.deck_card.specs.Card.{every, visible};
+ghost use Rattle.laws.specs.Every.{every};
+ghost use Rattle.deck_card.specs.Card.{visible};
 
 const LOWEST: u16 = card::LOWEST as u16;
 

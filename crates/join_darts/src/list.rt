@@ -7,7 +7,7 @@ ghost use lib.Dec.{eqb};
 ghost use lib.ListN.{length};
 ghost use Rattle.point_darts.specs.Dart.{mark};
 ghost use Rattle.paper.specs.Joining.{on};
-ghost use Rattle.join_darts.specs.Listed.{bounds, First, Listed, Lined, Walked};
+ghost use Rattle.join_darts.specs.Listed.{bounds, First, Listed, Chained, Walked};
 
 // Whether a side is a or b.
 fn is_either(side: u16, a: u16, b: u16) -> bool
@@ -65,10 +65,10 @@ fn reach(next: &[u16], list: &[u16], from: u16) -> u16
 pub fn narrow(next: &[u16], first: u16, list: &mut [u16]) -> u16
     requires { ⌜
         (length (now list) ≤ mark) × (length (now next) ≡ length (now list)) ×
-        Lined (length (now list)) first (now list)
+        Chained (length (now list)) first (now list)
         ⌝ }
     ensures { λ r. ⌜
-        ((g : Lined (length (now (list .entry))) first (now (list .entry))) →
+        ((g : Chained (length (now (list .entry))) first (now (list .entry))) →
         Listed (λ d. g .test d && on (now (next .entry)) d) (length (now (list .entry))) r (now (list .exit)))
         ⌝ }
 {

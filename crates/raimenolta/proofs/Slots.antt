@@ -13,14 +13,14 @@ use Rattle.paper.specs.Enclosure.{depth, holes}
 use Rattle.paper.specs.Drawing.{Tables}
 use Rattle.paper.specs.Refusal.{Outcome, outcome, five, countRefusal, deepened, holed}
 use Rattle.count_answer.specs.declared.Count.{Count}
-use Rattle.answer.specs.Answer.{numberOf, left}
+use Rattle.answer.specs.Answer.{numberOf, ended}
 use Rattle.count_answer.specs.Count.{countNumber, values, counted}
 use Rattle.deck_card.specs.declared.answer.Read.{Read}
 use Rattle.deck_card.specs.Outcome.{readOutcome}
 use Rattle.deck_reading.specs.Reading.{reading}
 use Rattle.deck_reading.proofs.One.{refused-some}
 use Rattle.raimenolta_values.specs.Put.{countHeld, refusal, sizeHeld, cardHeld}
-use Rattle.raimenolta.specs.Slot.{done, stopped, slotted, slottedTwice, carded}
+use Rattle.raimenolta.specs.Slot.{doneHeld, refusedHeld, slotted, slottedTwice, carded}
 
 -- the outcome of a count that is done has its value
 valued : (k x : ℕ) (ts us ws : List (List ℕ)) → outcome k (x ∷ []) ts us ws .number ≡ 0 → outcome k (x ∷ []) ts us ws .values ≢ []
@@ -40,8 +40,8 @@ module _ (w h : ℕ) (t : Tables) (r : ℕ) (ws : List (List ℕ)) where
 -- A count's answer, with its value in a slot.
 module _ (ts ws : List (List ℕ)) (o : Outcome) (l n v : ℕ) where
   pub count-slotted : (r : Count) → n ≡ countNumber r → v ≡ countHeld r l → counted r ts ws ≡ o → (o .number ≡ 0 → o .values ≢ [])
-      → left n [] (ts ++ (v ∷ []) ∷ []) ws ≡ slotted o (l ∷ [])
-  unfolding counted countNumber values slotted done countHeld
+      → ended n [] (ts ++ (v ∷ []) ∷ []) ws ≡ slotted o (l ∷ [])
+  unfolding counted countNumber values slotted doneHeld countHeld
   count-slotted (Count.Is i) p q e f = rw (← e, p, q)
   count-slotted (Count.Refused r) p q e f =
       rw (← e, p, q, ne-eqb (numberOf r) 0 (λ z. f (ap (λ (u : Outcome). u .number) (sym e) ∙ z) (ap (λ (u : Outcome). u .values) (sym e))))
@@ -49,7 +49,7 @@ module _ (ts ws : List (List ℕ)) (o : Outcome) (l n v : ℕ) where
 -- The reader's answer, with the size in one slot and the card in another.
 module _ (d t u s z : List ℕ) (k n y : ℕ) where
   pub read-slotted : (r : Read) → n ≡ refusal r → z ≡ sizeHeld r s → y ≡ cardHeld r k → readOutcome r u ≡ reading d t
-      → left n [] (u ∷ z ∷ (y ∷ []) ∷ []) [] ≡ slottedTwice (carded (reading d t)) s (k ∷ [])
-  unfolding readOutcome carded slottedTwice done stopped refusal sizeHeld cardHeld
+      → ended n [] (u ∷ z ∷ (y ∷ []) ∷ []) [] ≡ slottedTwice (carded (reading d t)) s (k ∷ [])
+  unfolding readOutcome carded slottedTwice doneHeld refusedHeld refusal sizeHeld cardHeld
   read-slotted (Read.Sheet w h) p q i e = rw (← e, p, q, i)
   read-slotted (Read.Refused m j) p q i e = rw (← e, p, q, i, ne-eqb m 0 (refused-some d t u m j (sym e)))

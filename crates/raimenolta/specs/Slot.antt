@@ -1,6 +1,6 @@
 -- Values in lent slots: a caller in another language takes no enum, so a call leaves its values in slots that it is lent.
---   done o l        == what a slot that held l holds after the outcome o: its values where it is done
---   stopped o l     == what a slot that held l holds after the outcome o: its values where it is refused
+--   doneHeld o l    == what a slot that held l holds after the outcome o: its values where it is done
+--   refusedHeld o l == what a slot that held l holds after the outcome o: its values where it is refused
 --   slotted o l     == the outcome o with its values in a slot that held l, after the other tables
 --   slottedTwice o s k == the outcome o with its values in two slots: when done in the one that held s, refused in the one
 --                      that held k
@@ -10,20 +10,20 @@ use mathlib.Core.List.{List, [], _∷_, _++_}
 use Prim.Native.Nat.{ℕ}
 use lib.Dec.{eqb}
 use Rattle.paper.specs.Refusal.{Outcome}
-use Rattle.deck_card.specs.Outcome as cards
-use Rattle.answer.specs.Answer.{left}
+use Rattle.deck_card.specs.Outcome.{DeckOutcome}
+use Rattle.answer.specs.Answer.{ended}
 
-unfoldable pub done : Outcome → List ℕ → List ℕ
-done o l = cond (eqb (o .number) 0) (o .values) l
+unfoldable pub doneHeld : Outcome → List ℕ → List ℕ
+doneHeld o l = cond (eqb (o .number) 0) (o .values) l
 
-unfoldable pub stopped : Outcome → List ℕ → List ℕ
-stopped o l = cond (eqb (o .number) 0) l (o .values)
+unfoldable pub refusedHeld : Outcome → List ℕ → List ℕ
+refusedHeld o l = cond (eqb (o .number) 0) l (o .values)
 
 unfoldable pub slotted : Outcome → List ℕ → Outcome
-slotted o l = left (o .number) [] (o .tables ++ done o l ∷ []) (o .work)
+slotted o l = ended (o .number) [] (o .tables ++ doneHeld o l ∷ []) (o .work)
 
 unfoldable pub slottedTwice : Outcome → List ℕ → List ℕ → Outcome
-slottedTwice o s k = left (o .number) [] (o .tables ++ done o s ∷ stopped o k ∷ []) (o .work)
+slottedTwice o s k = ended (o .number) [] (o .tables ++ doneHeld o s ∷ refusedHeld o k ∷ []) (o .work)
 
-unfoldable pub carded : cards.Outcome → Outcome
-carded o = left (o .number) (o .values) (o .table ∷ []) []
+unfoldable pub carded : DeckOutcome → Outcome
+carded o = ended (o .number) (o .values) (o .table ∷ []) []

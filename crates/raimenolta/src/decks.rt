@@ -4,7 +4,7 @@ ghost use mathlib.Core.List.{[], _∷_};
 ghost use Rattle.deck_card.specs.Card.{partRefusal};
 ghost use Rattle.deck_reading.specs.Reading.{reading};
 ghost use Rattle.deck_writing.specs.Writing.{writing};
-ghost use Rattle.answer.specs.Answer.{left};
+ghost use Rattle.answer.specs.Answer.{ended};
 ghost use Rattle.raimenolta.specs.Slot.{carded, slottedTwice};
 
 // Reads a deck into the cell table. When it is done the size holds the width and the height, and the card is left as it
@@ -18,7 +18,7 @@ pub extern "C" fn raimenolta_read(
     card: &mut u16,
 ) -> u16
     ensures { λ r. ⌜
-        left r [] (now (cells .exit) ∷ now (size .exit) ∷ (now (card .exit) ∷ []) ∷ []) [] ≡
+        ended r [] (now (cells .exit) ∷ now (size .exit) ∷ (now (card .exit) ∷ []) ∷ []) [] ≡
         slottedTwice (carded (reading (now (deck .entry)) (now (cells .entry)))) (now (size .entry)) (now (card .entry) ∷ [])
         ⌝ }
 {
@@ -30,7 +30,7 @@ pub extern "C" fn raimenolta_read(
 #[no_mangle]
 pub extern "C" fn raimenolta_write(width: u16, height: u16, sheet: &[u16], deck: &mut [u8]) -> u16
     ensures { λ r. ⌜
-        left r [] (now (deck .exit) ∷ []) [] ≡ carded (writing width height (now (sheet .entry)) (now (deck .entry)))
+        ended r [] (now (deck .exit) ∷ []) [] ≡ carded (writing width height (now (sheet .entry)) (now (deck .entry)))
         ⌝ }
 {
     let answer = deck_writing::write::write(width, height, sheet, deck);

@@ -6,7 +6,7 @@ ghost use Rattle.paper.specs.Refusal.{five, merged, deepened, holed};
 ghost use Rattle.table_lengths.specs.Given.{tables, works};
 ghost use Rattle.check_answer.specs.Check.{checked};
 ghost use Rattle.count_call.specs.Tally.{tallied};
-ghost use Rattle.answer.specs.Answer.{left};
+ghost use Rattle.answer.specs.Answer.{ended};
 ghost use Rattle.join_call.specs.Faithful.{Faithful};
 ghost use Rattle.raimenolta.specs.Slot.{slotted};
 
@@ -26,7 +26,7 @@ pub extern "C" fn raimenolta_check(
     work_d: &mut [u16],
 ) -> u16
     ensures { λ r. ⌜
-        left r []
+        ended r []
         (five
         (tables (now (next1 .entry)) (now (side1 .entry)) (now (next3 .entry)) (now (other3 .entry)) (now (parent .entry))))
         (works (now («work_a» .exit)) (now («work_b» .exit)) (now («work_c» .exit)) (now («work_d» .exit))) ≡
@@ -70,7 +70,7 @@ pub extern "C" fn raimenolta_join(
     work_d: &mut [u16],
 ) -> u16
     ensures { λ r. ⌜
-        (left r []
+        (ended r []
         (five
         (tables (now (next1 .exit)) (now (side1 .exit)) (now (next3 .exit)) (now (other3 .exit)) (now (parent .exit))))
         (works (now («work_a» .exit)) (now («work_b» .exit)) (now («work_c» .exit)) (now («work_d» .exit))) ≡
@@ -124,7 +124,7 @@ pub extern "C" fn raimenolta_depth(
     work_d: &mut [u16],
 ) -> u16
     ensures { λ r. ⌜
-        left r []
+        ended r []
         (five
         (tables (now (next1 .entry)) (now (side1 .entry)) (now (next3 .entry)) (now (other3 .entry)) (now (parent .entry))) ++
         (now (depth .exit) ∷ []) ∷ [])
@@ -173,7 +173,7 @@ pub extern "C" fn raimenolta_holes(
     work_d: &mut [u16],
 ) -> u16
     ensures { λ r. ⌜
-        left r []
+        ended r []
         (five
         (tables (now (next1 .entry)) (now (side1 .entry)) (now (next3 .entry)) (now (other3 .entry)) (now (parent .entry))) ++
         (now (holes .exit) ∷ []) ∷ [])
@@ -221,7 +221,7 @@ pub extern "C" fn raimenolta_counts(
     work_d: &mut [u16],
 ) -> u16
     ensures { λ r. ⌜
-        left r []
+        ended r []
         (five
         (tables (now (next1 .entry)) (now (side1 .entry)) (now (next3 .entry)) (now (other3 .entry)) (now (parent .entry))) ++
         now (depths .exit) ∷ now (holes .exit) ∷ [])

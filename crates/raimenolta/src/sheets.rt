@@ -3,7 +3,7 @@ ghost use mathlib.Core.Path.{_≡_};
 ghost use mathlib.Core.List.{[], _∷_};
 ghost use Rattle.paper.specs.Refusal.{levelled, five, mapped};
 ghost use Rattle.table_lengths.specs.Given.{tables, works};
-ghost use Rattle.answer.specs.Answer.{left};
+ghost use Rattle.answer.specs.Answer.{ended};
 
 // Draws a level of a sheet: next, other and side. Refusals 1, 2, 3 and 4.
 #[no_mangle]
@@ -21,7 +21,7 @@ pub extern "C" fn raimenolta_level(
     work_d: &mut [u16],
 ) -> u16
     ensures { λ r. ⌜
-        left r [] (now (next .exit) ∷ now (other .exit) ∷ now (side .exit) ∷ [])
+        ended r [] (now (next .exit) ∷ now (other .exit) ∷ now (side .exit) ∷ [])
         (works (now («work_a» .exit)) (now («work_b» .exit)) (now («work_c» .exit)) (now («work_d» .exit))) ≡
         levelled width height level (now (sheet .entry))
         (now (next .entry) ∷ now (other .entry) ∷ now (side .entry) ∷ [])
@@ -61,7 +61,7 @@ pub extern "C" fn raimenolta_draw(
     work_d: &mut [u16],
 ) -> u16
     ensures { λ r. ⌜
-        left r []
+        ended r []
         (five
         (tables (now (next1 .exit)) (now (side1 .exit)) (now (next3 .exit)) (now (other3 .exit)) (now (parent .exit))))
         (works (now («work_a» .exit)) (now («work_b» .exit)) (now («work_c» .exit)) (now («work_d» .exit))) ≡

@@ -1,5 +1,5 @@
 -- Depth, going up the parents.
---   above t n r     == how many parents up from r the outside is, counted n steps far
+--   above t n r     == how many parents up from r the outside is, countedAt n steps far
 --   depth t r       == above t r r
 use mathlib.Core.Path.{_≡_, refl, sym, ap}
 use mathlib.Core.Bool.{true, false, not}

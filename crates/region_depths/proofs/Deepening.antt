@@ -14,19 +14,19 @@ use Rattle.paper.specs.Enclosure.{above, depth}
 use Rattle.table_entries.proofs.Entries.{at-in}
 use Rattle.region_depths.specs.Tree.{known}
 use Rattle.region_depths.proofs.Climb.{depth-le, depth-up}
-use Rattle.region_depths.specs.Census.{counted, Deepened}
+use Rattle.region_depths.specs.Census.{countedAt, Deepened}
 
 or-true : (b : Bool) → (b || true) ≡ true
 or-true true = refl
 or-true false = refl
 
 module _ (t : List ℕ) (r : ℕ) (l : List ℕ) (d : Deepened t r l) where
-  pub deepened-outside : r ≡ 0 → 0 ≡ counted depth t r
-  unfolding counted known depth above
+  pub deepened-outside : r ≡ 0 → 0 ≡ countedAt depth t r
+  unfolding countedAt known depth above
   deepened-outside e = rw e
 
-  pub deepened-mark : r ≢ 0 → getD t r 0 ≡ mark → mark ≡ counted depth t r
-  unfolding counted known on
+  pub deepened-mark : r ≢ 0 → getD t r 0 ≡ mark → mark ≡ countedAt depth t r
+  unfolding countedAt known on
   deepened-mark n e = rw (ne-eqb r 0 n, ← at-in t r (d .below), eq-eqb (getD t r 0) mark e)
 
   module _ (n : r ≢ 0) (m : getD t r 0 ≢ mark) where
@@ -38,7 +38,7 @@ module _ (t : List ℕ) (r : ℕ) (l : List ℕ) (d : Deepened t r l) where
     deepened-below = rw (at-in t r (d .below)) (d .falls .down r in-use)
 
     above-entry : getD l (getD t r 0) 0 ≡ depth t (getD t r 0)
-    unfolding counted
+    unfolding countedAt
     above-entry =
         d .entry (getD t r 0) deepened-below
         ∙ rw (at-in t r (d .below), d .falls .held r in-use)
@@ -47,7 +47,7 @@ module _ (t : List ℕ) (r : ℕ) (l : List ℕ) (d : Deepened t r l) where
     unfolding mark
     deepened-fits = omega (arith, above-entry, depth-le t (getD t r 0), deepened-below, d .below, d .fits)
 
-    pub deepened-up : getD l (getD t r 0) 0 + 1 ≡ counted depth t r
-    unfolding counted known
+    pub deepened-up : getD l (getD t r 0) 0 + 1 ≡ countedAt depth t r
+    unfolding countedAt known
     deepened-up =
         rw (in-use, or-true (eqb r 0), above-entry, at-in t r (d .below)) (sym (depth-up t (d .falls) r in-use))

@@ -16,7 +16,7 @@ use Rattle.paper.specs.Enclosure.{holes}
 use Rattle.table_entries.proofs.Entries.{at-in, set-cases}
 use Rattle.region_depths.specs.Tree.{known, Falls}
 use Rattle.region_depths.proofs.Children.{count-le, childOf, holes-child, holes-other}
-use Rattle.region_depths.specs.Census.{counted, counts, started, Tallied}
+use Rattle.region_depths.specs.Census.{countedAt, counts, started, Tallied}
 
 module _ (t : List ℕ) (r : ℕ) where
   pub started-outside : r ≡ 0 → 0 ≡ started t r
@@ -42,12 +42,12 @@ module _ (t l : List ℕ) where
 
   module _ (i : ℕ) (y : Tallied t i l) where
     pub tallied-all : i ≡ length t → l ≡ counts holes t
-    unfolding counts counted holes at
+    unfolding counts countedAt holes at
     tallied-all e =
-        ext-getD 0 l (table (length t) (counted holes t)) (y .long ∙ sym (length-table (length t) (counted holes t)))
+        ext-getD 0 l (table (length t) (countedAt holes t)) (y .long ∙ sym (length-table (length t) (countedAt holes t)))
         (λ k b.
         let d : k < length t = omega (arith, y .long) in
-        y .entry k d ∙ rw (getD-table (length t) (counted holes t) k 0 d, e))
+        y .entry k d ∙ rw (getD-table (length t) (countedAt holes t) k 0 d, e))
 
     module _ (b : i < length t) where
       -- one name more that is not in use

@@ -1,5 +1,5 @@
 -- The counts of all names.
---   counted f t r   == f t r where r is the outside or a name in use, else the mark
+--   countedAt f t r   == f t r where r is the outside or a name in use, else the mark
 --   counts f t      == the table of these, by name
 use mathlib.Core.Path.{_≡_}
 use mathlib.Core.Bool.{cond}
@@ -13,11 +13,11 @@ use Rattle.paper.specs.Enclosure.{depth}
 use Rattle.paper.specs.Joining.{at}
 use Rattle.region_depths.specs.Tree.{known, Falls}
 
-unfoldable pub counted : (List ℕ → ℕ → ℕ) → List ℕ → ℕ → ℕ
-counted f t r = cond (known t r) (f t r) mark
+unfoldable pub countedAt : (List ℕ → ℕ → ℕ) → List ℕ → ℕ → ℕ
+countedAt f t r = cond (known t r) (f t r) mark
 
 unfoldable pub counts : (List ℕ → ℕ → ℕ) → List ℕ → List ℕ
-counts f t = table (length t) (counted f t)
+counts f t = table (length t) (countedAt f t)
 
 -- On the way to the counts of all names.
 --   Deepened t r l  == l has the depths of the names below r
@@ -27,7 +27,7 @@ pub record Deepened (t : List ℕ) (r : ℕ) (l : List ℕ) : Type 0 where
   pub fits : length t ≤ mark
   pub below : r < length t
   pub long : length l ≡ length t
-  pub entry : (k : ℕ) → k < r → getD l k 0 ≡ counted depth t k
+  pub entry : (k : ℕ) → k < r → getD l k 0 ≡ countedAt depth t k
 
 -- no hole yet: 0 at the outside and at each name in use
 unfoldable pub started : List ℕ → ℕ → ℕ

@@ -7,12 +7,12 @@ ghost use lib.ListN.{length};
 ghost use Rattle.point_darts.specs.Dart.{mark};
 ghost use Rattle.paper.specs.Enclosure.{depth, holes};
 ghost use Rattle.region_depths.specs.Tree.{Falls};
-ghost use Rattle.region_depths.specs.Census.{counted, counts, started, Deepened, Tallied};
+ghost use Rattle.region_depths.specs.Census.{countedAt, counts, started, Deepened, Tallied};
 
 // The depth of a name that is the outside or in use, from those of smaller names; the mark for any other name.
 fn deeper(parent: &[u16], depths: &[u16], name: u16) -> u16
     requires { ⌜ Deepened (now parent) name (now depths) ⌝ }
-    ensures { λ r. ⌜ r ≡ counted depth (now (parent .entry)) name ⌝ }
+    ensures { λ r. ⌜ r ≡ countedAt depth (now (parent .entry)) name ⌝ }
 {
     if name == 0 {
         return 0;
@@ -50,7 +50,7 @@ fn unfilled(parent: &[u16], name: u16) -> u16
     0
 }
 
-// No hole counted yet.
+// No hole countedAt yet.
 fn start_holes(parent: &[u16], tally: &mut [u16])
     requires { ⌜ (length (now parent) ≤ mark) × (length (now tally) ≡ length (now parent)) ⌝ }
     ensures { λ _. ⌜ Tallied (now (parent .entry)) 0 (now (tally .exit)) ⌝ }
@@ -63,7 +63,7 @@ fn start_holes(parent: &[u16], tally: &mut [u16])
     }
 }
 
-// The holes of all names, each counted for its parent.
+// The holes of all names, each countedAt for its parent.
 fn add_holes(parent: &[u16], tally: &mut [u16])
     requires { ⌜ Falls (now parent) × (length (now parent) ≤ mark) × Tallied (now parent) 0 (now tally) ⌝ }
     ensures { λ _. ⌜ now (tally .exit) ≡ counts holes (now (parent .entry)) ⌝ }

@@ -4,7 +4,8 @@ use native.Mathlib.Omega.{arith}
 use borrow.Author.Needs.{needs}
 use borrow.Author.Tests.{not-true, not-false}
 use lib.Seq.{slice}
-use Rattle.deck_card.specs.Card.{columns, places, long, blank, lowest, highest, visible, every, between}
+use Rattle.laws.specs.Every.{every}
+use Rattle.deck_card.specs.Card.{columns, places, long, blank, lowest, highest, visible, between}
 use Rattle.deck_card.proofs.Parts.{measured-is, part-held, whole-is}
 use Rattle.deck_card.proofs.Table.{part-slice}
 use Rattle.deck_faults.specs.Fault.{row}

@@ -2,8 +2,10 @@ use mathlib.Core.Path.{_≡_, refl, sym, _∙_}
 use Prim.Native.Nat.{_-_}
 use native.Mathlib.Omega.{arith}
 use lib.ListN.{length, drop}
-use Rattle.deck_card.specs.Card.{lowest, highest, every, visible}
-use Rattle.deck_card.proofs.Every.{between-below, between-above, between-inside, every-stop, every-go, every-end}
+use Rattle.laws.specs.Every.{every}
+use Rattle.deck_card.specs.Card.{lowest, highest, visible}
+use Rattle.laws.proofs.Every.{every-stop, every-go, every-end}
+use Rattle.deck_card.proofs.Every.{between-below, between-above, between-inside}
 use Rattle.deck_writing.proofs.label.visible.Statement.{statement}
 use Rattle.deck_writing.proofs.label.visible.Tie as tie
 

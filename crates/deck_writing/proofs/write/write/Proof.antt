@@ -7,7 +7,8 @@ use borrow.Author.Needs.{needs}
 use borrow.Author.Tests.{not-true, not-false}
 use Rattle.sheet_size.specs.Size.{within}
 use Rattle.point_darts.proofs.Fit.{cells-fit}
-use Rattle.deck_card.specs.Card.{columns, places, long, every, visible}
+use Rattle.laws.specs.Every.{every}
+use Rattle.deck_card.specs.Card.{columns, places, long, visible}
 use Rattle.deck_writing.specs.Writing.{deckLength}
 use Rattle.deck_writing.proofs.Punching.{writing-size, writing-sheet, writing-deck, writing-label}
 use Rattle.deck_writing.proofs.Punching.{writing-done, deck-some, deck-whole}

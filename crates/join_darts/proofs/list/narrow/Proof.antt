@@ -4,14 +4,14 @@ use native.Mathlib.Omega.{arith}
 use lib.ListN.{length}
 use Rattle.point_darts.specs.Dart.{mark}
 use Rattle.paper.specs.Joining.{on}
-use Rattle.join_darts.specs.Listed.{Lined}
+use Rattle.join_darts.specs.Listed.{Chained}
 use Rattle.join_darts.proofs.Narrowing.{Narrowed, listed-all, narrowed-none, narrowed-rest, narrowed-more, narrowed-all}
 use Rattle.join_darts.proofs.list.narrow.Statement.{statement}
 use Rattle.join_darts.proofs.list.narrow.Tie as tie
 
 abbrev Inv-loop : tie.InvT-loop
 Inv-loop next first list₀ n start dart₀ list dart =
-    (g : Lined (length list₀) first list₀) → Narrowed (g .test) (on next) (length list₀) list₀ start dart list
+    (g : Chained (length list₀) first list₀) → Narrowed (g .test) (on next) (length list₀) list₀ start dart list
 
 abbrev μ-loop : tie.MeasureT-loop
 μ-loop next first list₀ n start dart₀ list dart = n - dart

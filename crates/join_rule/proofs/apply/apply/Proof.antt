@@ -7,7 +7,7 @@ use lib.Seq.{length-take-le, length-front}
 use Rattle.point_darts.specs.Dart.{slots}
 use Rattle.paper_laws.proofs.Marks.{within-fits}
 use Rattle.table_lengths.proofs.Tested.{stated-parent, stated-slots}
-use Rattle.join_darts.specs.Listed.{bounds, Lined}
+use Rattle.join_darts.specs.Listed.{bounds, Chained}
 use Rattle.join_darts.proofs.Listing.{bounded-all, bounded-on}
 use Rattle.join_rule.proofs.Applying.{all-steps, pair-cleared}
 use Rattle.join_rule.proofs.apply.apply.Statement.{statement}
@@ -53,7 +53,7 @@ list-long c =
 
 -- It has the darts of a and b.
 abbrev lined-bounds : (c : tie.After-list-darts)
-    → Lined (length (c .list-darts .last .1 .1 .1 .0)) (c .list-darts .result) (c .list-darts .last .1 .1 .1 .0)
+    → Chained (length (c .list-darts .last .1 .1 .1 .0)) (c .list-darts .result) (c .list-darts .last .1 .1 .1 .0)
 lined-bounds c =
     let a = start c .args in
     record {

@@ -4,13 +4,13 @@ use native.Mathlib.Omega.{arith}
 use lib.ListN.{length}
 use Rattle.point_darts.specs.Dart.{mark}
 use Rattle.paper.specs.Enclosure.{depth}
-use Rattle.region_depths.specs.Census.{counted, counts}
+use Rattle.region_depths.specs.Census.{countedAt, counts}
 use Rattle.table_entries.proofs.Filled.{Filled, filled-none, filled-more, filled-all}
 use Rattle.region_depths.proofs.census.all_depths.Statement.{statement}
 use Rattle.region_depths.proofs.census.all_depths.Tie as tie
 
 abbrev Inv-loop : tie.InvT-loop
-Inv-loop parent depths₀ n i₀ depths i = Filled (length parent) (counted depth parent) i depths₀ depths
+Inv-loop parent depths₀ n i₀ depths i = Filled (length parent) (countedAt depth parent) i depths₀ depths
 
 abbrev μ-loop : tie.MeasureT-loop
 μ-loop parent depths₀ n i₀ depths i = n - i
