@@ -22,7 +22,9 @@ check-requires : tie.Need-check-requires
 check-requires c κs = tt
 
 asked-requires : tie.Need-asked-requires
-asked-requires c κs = accepted-within _ _ _ _ _ _ (c .before .before .before .before .before .before .before .before .before .before .check .ensures)
+asked-requires c κs =
+    let k = c .before .before .before .before .before .before .before .before .before .before in
+    accepted-within _ _ _ _ _ _ (k .check .ensures)
 
 number-requires : tie.Need-number-requires
 number-requires c κs = tt
@@ -64,8 +66,8 @@ apply-requires : tie.Need-apply-requires
 apply-requires c κs =
     let n = c .before .before .before .before .before .before .before .before in
     let k = asked n in
-    ready-pair _ _ _ _ _ _ _ _ _ _ _ _ _
-    (asked-ready _ _ _ _ _ _ _ _ (checked k .check .ensures) _ (k .asked .ensures) (sym (n .number .ensures) ∙ c .before .before .before .before .before .before .before .if1 .left))
+    let z = sym (n .number .ensures) ∙ c .before .before .before .before .before .before .before .if1 .left in
+    ready-pair _ _ _ _ _ _ _ _ _ _ _ _ _ (asked-ready _ _ _ _ _ _ _ _ (checked k .check .ensures) _ (k .asked .ensures) z)
 
 same-length-10 : tie.Need-same-length-10
 same-length-10 c = joined c .apply .kept .1 .1 .1 .1 .0
