@@ -1,3 +1,3 @@
 pub mod Agreeing
 mod Checked
-mod Told
+mod Recovering

@@ -7,11 +7,11 @@ ghost use Prim.Native.Nat.{_*_};
 ghost use lib.ListN.{length};
 ghost use Rattle.sheet_size.specs.Size.{within};
 ghost use Rattle.paper.specs.Drawing.{recovered};
-ghost use Rattle.check_call.specs.Told.{told};
+ghost use Rattle.check_call.specs.Label.{labelAt};
 
 // The side of a dart where it is present, else the label to the left.
-fn told(side: &[u16], line: u16, left: u16) -> u16
-    ensures { λ r. ⌜ r ≡ told (now (side .entry)) line left ⌝ }
+fn label_at(side: &[u16], line: u16, left: u16) -> u16
+    ensures { λ r. ⌜ r ≡ labelAt (now (side .entry)) line left ⌝ }
 {
     let label = entry::get(side, line);
     if label == dart::MARK {
@@ -32,7 +32,7 @@ pub fn recover(width: u16, height: u16, side: &[u16], labels: &mut [u16])
     let mut column: u16 = 0;
     let mut i: u16 = 0;
     while i < n {
-        label = told(side, Dart::leaving(point, Dart::NORTH).number, label);
+        label = label_at(side, Dart::leaving(point, Dart::NORTH).number, label);
         labels[i as usize] = label;
         i += 1;
         point += 1;

@@ -1,6 +1,6 @@
 -- Tests that go along a list.
---   every p (drop i l)               == the entries from i on pass the test p
---   same (slice i e l) (slice i e m) == the lists l and m have the same entries from i up to e
+--   every p (drop i l) == the entries from i on pass the test p
+--   equal (slice i e l) (slice i e m) == the lists l and m have the equal entries from i up to e
 use mathlib.Core.Path.{_≡_, refl}
 use mathlib.Core.Bool.{Bool, true, false, and-false, false≢true}
 use mathlib.Core.List.{List, [], _∷_, _++_}
@@ -14,58 +14,58 @@ use lib.Seq.{drop-cons, slice, slice-cons, slice-empty}
 use borrow.Author.Tests.{eqb-true, eq-eqb, ne-eqb, le-leb, lt-leb, leb-true}
 use Rattle.laws.proofs.Test.{and-left, and-right}
 use Rattle.laws.specs.Every.{every}
-use Rattle.deck_card.specs.Card.{blank, lowest, highest, same, between, visible}
+use Rattle.deck_card.specs.Card.{blank, lowest, highest, equal, fromTo, visible}
 
 -- A test of a range.
-pub between-below : (a b n : ℕ) → n < a → between a b n ≡ false
-unfolding between
-between-below a b n h = rw (lt-leb a n h)
+pub from-to-below : (a b n : ℕ) → n < a → fromTo a b n ≡ false
+unfolding fromTo
+from-to-below a b n h = rw (lt-leb a n h)
 
-pub between-above : (a b n : ℕ) → b < n → between a b n ≡ false
-unfolding between
-between-above a b n h = rw (lt-leb n b h) (and-false (leb a n))
+pub from-to-above : (a b n : ℕ) → b < n → fromTo a b n ≡ false
+unfolding fromTo
+from-to-above a b n h = rw (lt-leb n b h) (and-false (leb a n))
 
-pub between-inside : (a b n : ℕ) → a ≤ n → n ≤ b → between a b n ≡ true
-unfolding between
-between-inside a b n h k = rw (le-leb a n h, le-leb n b k)
+pub from-to-inside : (a b n : ℕ) → a ≤ n → n ≤ b → fromTo a b n ≡ true
+unfolding fromTo
+from-to-inside a b n h k = rw (le-leb a n h, le-leb n b k)
 
 pub visible-most : (n : ℕ) → visible n ≡ true → n ≤ highest
-unfolding visible between
+unfolding visible fromTo
 visible-most n e = leb-true n highest (and-right (leb lowest n) (leb n highest) e)
 
 -- The lists l and m, both at least e long, from i up to e.
 module _ (l m : List ℕ) (e : ℕ) (h : e ≤ length l) (k : e ≤ length m) where
   -- entries that differ
-  pub same-stop : (i : ℕ) → i < e → (getD l i 0 ≡ getD m i 0 → ⊥) → same (slice i e l) (slice i e m) ≡ false
-  unfolding same
-  same-stop i b n = rw (slice-cons i e l 0 b h, slice-cons i e m 0 b k, ne-eqb _ _ n)
+  pub equal-stop : (i : ℕ) → i < e → (getD l i 0 ≡ getD m i 0 → ⊥) → equal (slice i e l) (slice i e m) ≡ false
+  unfolding equal
+  equal-stop i b n = rw (slice-cons i e l 0 b h, slice-cons i e m 0 b k, ne-eqb _ _ n)
 
   -- entries that are equal: the rest decides
-  pub same-go : (i : ℕ) → i < e → getD l i 0 ≡ getD m i 0
-      → same (slice (i + 1) e l) (slice (i + 1) e m) ≡ same (slice i e l) (slice i e m)
-  unfolding same
-  same-go i b q = rw (slice-cons i e l 0 b h, slice-cons i e m 0 b k, eq-eqb _ _ q, add-one)
+  pub equal-go : (i : ℕ) → i < e → getD l i 0 ≡ getD m i 0
+      → equal (slice (i + 1) e l) (slice (i + 1) e m) ≡ equal (slice i e l) (slice i e m)
+  unfolding equal
+  equal-go i b q = rw (slice-cons i e l 0 b h, slice-cons i e m 0 b k, eq-eqb _ _ q, add-one)
 
 -- Lists that are the same, and lists that are equal.
-pub same-refl : (l : List ℕ) → same l l ≡ true
-unfolding same
-same-refl [] = refl
-same-refl (x ∷ l) = rw (eq-eqb x x refl) (same-refl l)
+pub equal-refl : (l : List ℕ) → equal l l ≡ true
+unfolding equal
+equal-refl [] = refl
+equal-refl (x ∷ l) = rw (eq-eqb x x refl) (equal-refl l)
 
-pub same-true : (l m : List ℕ) → same l m ≡ true → l ≡ m
-unfolding same
-same-true [] [] e = refl
-same-true [] (y ∷ m) e = absurd (false≢true e)
-same-true (x ∷ l) [] e = absurd (false≢true e)
-same-true (x ∷ l) (y ∷ m) e =
-    let p = eqb-true x y (and-left (eqb x y) (same l m) e) in
-    let q = same-true l m (and-right (eqb x y) (same l m) e) in
+pub equal-true : (l m : List ℕ) → equal l m ≡ true → l ≡ m
+unfolding equal
+equal-true [] [] e = refl
+equal-true [] (y ∷ m) e = absurd (false≢true e)
+equal-true (x ∷ l) [] e = absurd (false≢true e)
+equal-true (x ∷ l) (y ∷ m) e =
+    let p = eqb-true x y (and-left (eqb x y) (equal l m) e) in
+    let q = equal-true l m (and-right (eqb x y) (equal l m) e) in
     λ i. p i ∷ q i
 
 -- nothing is left to compare
-pub same-end : (l m : List ℕ) (e i : ℕ) → i ≡ e → same (slice i e l) (slice i e m) ≡ true
-unfolding same
-same-end l m e i q = rw (q, slice-empty e l, slice-empty e m)
+pub equal-end : (l m : List ℕ) (e i : ℕ) → i ≡ e → equal (slice i e l) (slice i e m) ≡ true
+unfolding equal
+equal-end l m e i q = rw (q, slice-empty e l, slice-empty e m)
 
 -- Parts of a list whose entries all pass, and two such lists.
 pub every-take : (p : ℕ → Bool) (n : ℕ) (l : List ℕ) → every p l ≡ true → every p (take n l) ≡ true
@@ -94,18 +94,18 @@ labels-bytes (x ∷ l) e zero = let b = visible-most x (and-left (visible x) (ev
 labels-bytes (x ∷ l) e (suc i) = labels-bytes l (and-right (visible x) (every visible l) e) i
 
 -- blanks, and nothing else
-pub every-blanks : (n : ℕ) → every (between blank blank) (replicate n blank) ≡ true
+pub every-blanks : (n : ℕ) → every (fromTo blank blank) (replicate n blank) ≡ true
 unfolding every
 every-blanks zero = refl
-every-blanks (suc n) = rw (between-inside blank blank blank (le-refl _) (le-refl _)) (every-blanks n)
+every-blanks (suc n) = rw (from-to-inside blank blank blank (le-refl _) (le-refl _)) (every-blanks n)
 
-pub every-blank : (l : List ℕ) → every (between blank blank) l ≡ true → l ≡ replicate (length l) blank
-unfolding every between
+pub every-blank : (l : List ℕ) → every (fromTo blank blank) l ≡ true → l ≡ replicate (length l) blank
+unfolding every fromTo
 every-blank [] e = refl
 every-blank (x ∷ l) e =
-    let p = and-left (between blank blank x) (every (between blank blank) l) e in
+    let p = and-left (fromTo blank blank x) (every (fromTo blank blank) l) e in
     let b = leb-true blank x (and-left (leb blank x) (leb x blank) p) in
     let t = leb-true x blank (and-right (leb blank x) (leb x blank) p) in
     let s : x ≡ blank = omega arith in
-    let q = every-blank l (and-right (between blank blank x) (every (between blank blank) l) e) in
+    let q = every-blank l (and-right (fromTo blank blank x) (every (fromTo blank blank) l) e) in
     λ i. s i ∷ q i

@@ -3,13 +3,13 @@
 --   places          == how many columns after those hold the digits of its number: columns 73 to 80
 --   long            == the length of a card, its line feed included
 --   blank, feed     == the bytes of a blank and of a line feed
---   same a b        == the lists a and b are equal
---   between a b n   == n is from a to b
+--   equal a b       == the lists a and b are equal
+--   fromTo a b n    == n is from a to b
 --   visible         == may stand in a cell: from the lowest such byte, 33, to the highest, 126
 --   digit n k       == the byte of the decimal digit of n that has k digits after it
 --   digits k n      == the last k digits of n
 --   padded c        == the content c, and blanks after it to the last column of content
---   card k c        == the card numbered k with the content c
+--   card k c        == the card bears k with the content c
 --   whole c         == c is 80 bytes and a line feed
 --   measured w      == w is a width that a card can hold: 1 to 72
 --   part w c        == the first w bytes of c where w is such a width and c is whole, else nothing
@@ -35,14 +35,14 @@ blank = 32
 unfoldable pub feed : ℕ
 feed = 10
 
-unfoldable pub same : List ℕ → List ℕ → Bool
-same [] [] = true
-same [] (y ∷ m) = false
-same (x ∷ l) [] = false
-same (x ∷ l) (y ∷ m) = eqb x y && same l m
+unfoldable pub equal : List ℕ → List ℕ → Bool
+equal [] [] = true
+equal [] (y ∷ m) = false
+equal (x ∷ l) [] = false
+equal (x ∷ l) (y ∷ m) = eqb x y && equal l m
 
-unfoldable pub between : ℕ → ℕ → ℕ → Bool
-between a b n = leb a n && leb n b
+unfoldable pub fromTo : ℕ → ℕ → ℕ → Bool
+fromTo a b n = leb a n && leb n b
 
 unfoldable pub lowest : ℕ
 lowest = 33
@@ -51,7 +51,7 @@ unfoldable pub highest : ℕ
 highest = 126
 
 unfoldable pub visible : ℕ → Bool
-visible = between lowest highest
+visible = fromTo lowest highest
 
 unfoldable pub digit : ℕ → ℕ → ℕ
 digit n zero = 48 + n % 10

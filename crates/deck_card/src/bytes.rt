@@ -7,7 +7,7 @@ ghost use Prim.Native.Nat.{ℕ, _≤_, _<_};
 ghost use lib.ListN.{length, getD};
 ghost use lib.Seq.{slice};
 ghost use Rattle.laws.specs.Every.{every};
-ghost use Rattle.deck_card.specs.Card.{columns, long, same, between, digit, card};
+ghost use Rattle.deck_card.specs.Card.{columns, long, equal, fromTo, digit, card};
 
 // The byte of the decimal digit of a number that has so many digits after it.
 pub(crate) fn digit(number: u16, after: usize) -> u8
@@ -44,7 +44,7 @@ fn byte(content: &[u16], number: u16, place: usize) -> u8
 pub fn agrees(bytes: &[u8], content: &[u16], number: u16, from: usize, to: usize) -> bool
     requires { ⌜ (length (now content) ≤ columns) × ((i : ℕ) → getD (now content) i 0 < 256) ⌝ }
     requires { ⌜ (from ≤ to) × ((to ≤ length (now bytes)) × (to ≤ long)) ⌝ }
-    ensures { λ r. ⌜ r ≡ same (slice from to (now (bytes .entry))) (slice from to (card number (now (content .entry)))) ⌝ }
+    ensures { λ r. ⌜ r ≡ equal (slice from to (now (bytes .entry))) (slice from to (card number (now (content .entry)))) ⌝ }
 {
     let mut i = from;
     while i < to {
@@ -71,7 +71,7 @@ pub fn put(bytes: &mut [u8], content: &[u16], number: u16)
 
 // Whether each byte is from the low one to the high one.
 pub fn all_between(bytes: &[u8], low: u8, high: u8) -> bool
-    ensures { λ r. ⌜ r ≡ every (between low high) (now (bytes .entry)) ⌝ }
+    ensures { λ r. ⌜ r ≡ every (fromTo low high) (now (bytes .entry)) ⌝ }
 {
     let mut i = 0;
     while i < bytes.len() {

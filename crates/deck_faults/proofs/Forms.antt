@@ -12,11 +12,11 @@ use lib.Seq.{slice}
 use Rattle.laws.proofs.Test.{and-left}
 use Rattle.sheet_size.specs.Size.{within}
 use Rattle.laws.specs.Every.{every}
-use Rattle.deck_card.specs.Card.{columns, places, blank, same, between, visible, card, whole}
+use Rattle.deck_card.specs.Card.{columns, places, blank, equal, fromTo, visible, card, whole}
 use Rattle.deck_card.specs.Layout.{heading}
 use Rattle.deck_card.proofs.Cards.{card-columns, card-number}
 use Rattle.deck_card.proofs.Headings.{heading-fits}
-use Rattle.deck_faults.specs.Fault.{orElse, numbered, form, width, height, headed, header, row}
+use Rattle.deck_faults.specs.Fault.{orElse, bears, form, width, height, headed, header, row}
 
 -- A refusal, or another where it is none.
 pub or-else-some : (a b : ℕ) → (a ≡ 0 → ⊥) → a ≡ orElse a b
@@ -35,15 +35,15 @@ or-else-zero (suc a) b e = e
 
 module _ (k : ℕ) (c : List ℕ) where
   -- its number, against that of a card that is numbered so
-  pub numbered-is : numbered k c
-      ≡ same (slice columns (columns + places) c) (slice columns (columns + places) (card k []))
-  unfolding numbered
-  numbered-is = rw (card-number k [] (omega arith))
+  pub bears-is : bears k c
+      ≡ equal (slice columns (columns + places) c) (slice columns (columns + places) (card k []))
+  unfolding bears
+  bears-is = rw (card-number k [] (omega arith))
 
 module _ (c : List ℕ) where
   pub headed-is : headed c
       ≡ (within (width c) (height c)
-      && same (slice 0 columns c) (slice 0 columns (card 1 (heading (width c) (height c)))))
+      && equal (slice 0 columns c) (slice 0 columns (card 1 (heading (width c) (height c)))))
   unfolding headed
   headed-is = rw (card-columns 1 (heading (width c) (height c)) (heading-fits _ _))
 
@@ -82,20 +82,20 @@ module _ (w k : ℕ) (c : List ℕ) where
   row-form e = or-else-zero _ _ e
 
   pub row-is : form k c ≡ 0
-      → row w k c ≡ cond (every visible (take w c)) (cond (every (between blank blank) (slice w columns c)) 0 24) 23
+      → row w k c ≡ cond (every visible (take w c)) (cond (every (fromTo blank blank) (slice w columns c)) 0 24) 23
   unfolding row
   row-is e = or-else-none _ _ e
 
 -- A card whose form is not refused.
 pub record Formed (k : ℕ) (c : List ℕ) : Type 0 where
   pub whole-is : whole c ≡ true
-  pub number-is : numbered k c ≡ true
+  pub number-is : bears k c ≡ true
 
 pub form-none : (k : ℕ) (c : List ℕ) → form k c ≡ 0 → Formed k c
 unfolding form
-form-none k c e = go (eqb (length c) 0) (whole c) (numbered k c) refl refl e
+form-none k c e = go (eqb (length c) 0) (whole c) (bears k c) refl refl e
   where
-    go : (a b n : Bool) → whole c ≡ b → numbered k c ≡ n → _≡_ {A = ℕ} (cond a 25 (cond b (cond n 0 22) 20)) 0
+    go : (a b n : Bool) → whole c ≡ b → bears k c ≡ n → _≡_ {A = ℕ} (cond a 25 (cond b (cond n 0 22) 20)) 0
         → Formed k c
     go true b n p q h = absurd (omega arith)
     go false false n p q h = absurd (omega arith)
@@ -106,12 +106,12 @@ form-none k c e = go (eqb (length c) 0) (whole c) (numbered k c) refl refl e
 pub record Rowed (w k : ℕ) (c : List ℕ) : Type 0 where
   pub form-is : form k c ≡ 0
   pub cells-are : every visible (take w c) ≡ true
-  pub blanks-are : every (between blank blank) (slice w columns c) ≡ true
+  pub blanks-are : every (fromTo blank blank) (slice w columns c) ≡ true
 
 pub row-none : (w k : ℕ) (c : List ℕ) → row w k c ≡ 0 → Rowed w k c
 row-none w k c e = go _ _ refl refl (sym (row-is w k c (row-form w k c e)) ∙ e)
   where
-    go : (a b : Bool) → every visible (take w c) ≡ a → every (between blank blank) (slice w columns c) ≡ b
+    go : (a b : Bool) → every visible (take w c) ≡ a → every (fromTo blank blank) (slice w columns c) ≡ b
         → _≡_ {A = ℕ} (cond a (cond b 0 24) 23) 0 → Rowed w k c
     go true true p q h = record { form-is = row-form w k c e; cells-are = p; blanks-are = q }
     go true false p q h = absurd (omega arith)

@@ -1,5 +1,5 @@
 -- A card that is not refused is the card of its number and its content, and such a card is not refused.
---   card k c        == the card numbered k with the content c
+--   card k c        == the card bears k with the content c
 use mathlib.Core.Path.{_≡_, refl, sym, ap, _∙_}
 use mathlib.Core.Bool.{true}
 use mathlib.Core.List.{List, [], _∷_, _++_, append-assoc}
@@ -13,14 +13,14 @@ use Rattle.laws.proofs.Test.{and-right}
 use Rattle.sheet_size.specs.Size.{within}
 use Rattle.sheet_size.proofs.Limit.{within-limits}
 use Rattle.laws.specs.Every.{every}
-use Rattle.deck_card.specs.Card.{columns, places, long, blank, feed, same, visible, digit, digits, padded, card}
+use Rattle.deck_card.specs.Card.{columns, places, long, blank, feed, equal, visible, digit, digits, padded, card}
 use Rattle.deck_card.specs.Card.{whole}
 use Rattle.deck_card.proofs.Parts.{is-whole, whole-is}
 use Rattle.deck_card.specs.Layout.{heading}
 use Rattle.deck_card.proofs.Cards.{length-card, card-content, card-feed, card-columns, card-number}
-use Rattle.deck_card.proofs.Every.{same-refl, same-true, every-blank, every-blanks}
+use Rattle.deck_card.proofs.Every.{equal-refl, equal-true, every-blank, every-blanks}
 use Rattle.deck_card.proofs.Headings.{length-heading, heading-fits}
-use Rattle.deck_faults.specs.Fault.{numbered, form, value, width, height, headed, header, row}
+use Rattle.deck_faults.specs.Fault.{bears, form, value, width, height, headed, header, row}
 use Rattle.deck_faults.proofs.Forms.{header-is, header-form, header-headed, row-is, row-none, form-none}
 
 -- A card with a content that fits it.
@@ -34,10 +34,10 @@ module _ (k : ℕ) (c : List ℕ) (fits : length c ≤ columns) where
       })
 
   pub card-formed : form k (card k c) ≡ 0
-  unfolding form numbered long
+  unfolding form bears long
   card-formed =
       let n : length (card k c) ≡ 0 → ⊥ = λ e. omega (arith, length-card k c fits) in
-      rw (ne-eqb (length (card k c)) 0 n, card-whole, card-number k c fits, same-refl)
+      rw (ne-eqb (length (card k c)) 0 n, card-whole, card-number k c fits, equal-refl)
 
   -- its cells, and the blanks after them
   pub card-cells : take (length c) (card k c) ≡ c
@@ -54,7 +54,7 @@ module _ (k : ℕ) (c : List ℕ) (fits : length c ≤ columns) where
 
 -- A card whose form is not refused: its content's columns, its number, the line feed.
 pub formed-is : (k : ℕ) (c : List ℕ) → form k c ≡ 0 → c ≡ take columns c ++ (digits places k ++ (feed ∷ []))
-unfolding numbered long
+unfolding bears long
 formed-is k c e =
     let f = form-none k c e in
     let q = whole-is c (f .whole-is) in
@@ -63,7 +63,7 @@ formed-is k c e =
     let last = drop-cons c (columns + places) 0 (omega arith) ∙ (λ i. q .feed-is i ∷ none i) in
     let front =
     sym (take-append-drop columns (take (columns + places) c))
-    ∙ (λ i. take-take columns (columns + places) c (omega arith) i ++ same-true _ _ (f .number-is) i) in
+    ∙ (λ i. take-take columns (columns + places) c (omega arith) i ++ equal-true _ _ (f .number-is) i) in
     sym (take-append-drop (columns + places) c) ∙ (λ i. front i ++ last i)
     ∙ append-assoc (take columns c) (digits places k) (feed ∷ [])
 
@@ -111,7 +111,7 @@ module _ (w h : ℕ) (size : within w h ≡ true) where
   heading-header =
       let c = heading w h in
       let formed = header-is (card 1 c) (card-formed 1 c (heading-fits w h)) in
-      rw (formed, heading-width, heading-height, size, card-columns 1 c (heading-fits w h), same-refl)
+      rw (formed, heading-width, heading-height, size, card-columns 1 c (heading-fits w h), equal-refl)
 
 -- a header that is not refused
 pub header-card : (c : List ℕ) → header c ≡ 0 → c ≡ card 1 (heading (width c) (height c))
@@ -119,6 +119,6 @@ unfolding card headed
 header-card c e =
     let w = width c in
     let h = height c in
-    let p = and-right (within w h) (same (take columns c) (padded (heading w h))) (header-headed c e) in
+    let p = and-right (within w h) (equal (take columns c) (padded (heading w h))) (header-headed c e) in
     formed-is 1 c (header-form c e)
-    ∙ ap (λ x. x ++ (digits places 1 ++ (feed ∷ []))) (same-true (take columns c) (padded (heading w h)) p)
+    ∙ ap (λ x. x ++ (digits places 1 ++ (feed ∷ []))) (equal-true (take columns c) (padded (heading w h)) p)

@@ -1,15 +1,15 @@
 -- What a card is refused for (the paper, "The deck" and "Refusal numbers and their order"). A refusal is its number, or 0
 -- where nothing is refused.
 --   orElse a b      == the refusal a, or b where a is none
---   numbered k c    == columns 73 to 80 of c are the digits of k
---   form k c        == the refusal of the form of the card numbered k, whatever its content: 25 not there, 20 not whole, so
+--   bears k c       == columns 73 to 80 of c are the digits of k
+--   form k c        == the refusal of the form of the card bears k, whatever its content: 25 not there, 20 not whole, so
 --                      not 80 bytes and a line feed, 22 not bearing its number
 --   value a b       == the number whose two digits are the bytes a and b
 --   width c, height c == the values of columns 7-8 and 9-10 of a header
 --   headed c        == these are a size, and columns 1 to 72 are laid out as the header of this size: so the four columns
 --                      are digits
 --   header c        == the refusal of a header: its form's, then 21
---   row w k c       == the refusal of the card numbered k with w cells: its form's, then from the left 23 for a cell that
+--   row w k c       == the refusal of the card bears k with w cells: its form's, then from the left 23 for a cell that
 --                      is not visible and 24 for a column after the cells that is not blank
 use mathlib.Core.Bool.{Bool, cond, _&&_}
 use mathlib.Core.List.{List}
@@ -18,18 +18,18 @@ use lib.Dec.{eqb}
 use lib.ListN.{length, getD, take, drop}
 use Rattle.sheet_size.specs.Size.{within}
 use Rattle.laws.specs.Every.{every}
-use Rattle.deck_card.specs.Card.{columns, places, blank, same, between, visible, digits, padded, whole}
+use Rattle.deck_card.specs.Card.{columns, places, blank, equal, fromTo, visible, digits, padded, whole}
 use Rattle.deck_card.specs.Layout.{heading}
 
 unfoldable pub orElse : ℕ → ℕ → ℕ
 orElse zero b = b
 orElse (suc a) b = suc a
 
-unfoldable pub numbered : ℕ → List ℕ → Bool
-numbered k c = same (drop columns (take (columns + places) c)) (digits places k)
+unfoldable pub bears : ℕ → List ℕ → Bool
+bears k c = equal (drop columns (take (columns + places) c)) (digits places k)
 
 unfoldable pub form : ℕ → List ℕ → ℕ
-form k c = cond (eqb (length c) 0) 25 (cond (whole c) (cond (numbered k c) 0 22) 20)
+form k c = cond (eqb (length c) 0) 25 (cond (whole c) (cond (bears k c) 0 22) 20)
 
 unfoldable pub value : ℕ → ℕ → ℕ
 value a b = 10 * (a - 48) + (b - 48)
@@ -41,7 +41,7 @@ unfoldable pub height : List ℕ → ℕ
 height c = value (getD c 8 0) (getD c 9 0)
 
 unfoldable pub headed : List ℕ → Bool
-headed c = within (width c) (height c) && same (take columns c) (padded (heading (width c) (height c)))
+headed c = within (width c) (height c) && equal (take columns c) (padded (heading (width c) (height c)))
 
 unfoldable pub header : List ℕ → ℕ
 header c = orElse (form 1 c) (cond (headed c) 0 21)
@@ -49,4 +49,4 @@ header c = orElse (form 1 c) (cond (headed c) 0 21)
 unfoldable pub row : ℕ → ℕ → List ℕ → ℕ
 row w k c =
     orElse (form k c)
-    (cond (every visible (take w c)) (cond (every (between blank blank) (drop w (take columns c))) 0 24) 23)
+    (cond (every visible (take w c)) (cond (every (fromTo blank blank) (drop w (take columns c))) 0 24) 23)

@@ -1,8 +1,8 @@
 -- The darts of two regions, in a list.
---   bounds s a b d   == dart d has side a or side b, by the table s
+--   bounds s a b d  == dart d has side a or side b, by the table s
 --   First q n d e   == e is the first slot from d on that passes the test q, or n where none of the n slots does
 --   Listed q n f t  == f is the first slot of all that passes, and the table t leads from each to the first after it
---   Chained n f t     == it leads so from each slot that passes some test
+--   Chained n f t   == it leads so from each slot that passes some test
 --   Listing q n i f t == the list of the slots from i on, in the table t of n entries; it starts at f
 --   Walked n f t    == the list from f on is so the list of the slots from some slot on, by some test
 --   Bounded s n a b m f t == the list has every dart that has side a or b, by the table s, and a next, by the table n

@@ -1,5 +1,5 @@
 -- The counts of all names.
---   countedAt f t r   == f t r where r is the outside or a name in use, else the mark
+--   countedAt f t r == f t r where r is the outside or a name in use, else the mark
 --   counts f t      == the table of these, by name
 use mathlib.Core.Path.{_≡_}
 use mathlib.Core.Bool.{cond}

@@ -6,7 +6,7 @@ use borrow.Author.Needs.{needs}
 use Rattle.point_darts.specs.Dart.{mark, dart}
 use Rattle.sheet_size.proofs.Limit.{within-limits}
 use Rattle.point_darts.proofs.Fit.{cells-fit}
-use Rattle.check_call.proofs.Told.{Recovering, recovering-none, recovering-all, recovering-fit, recovering-on, recovering-down}
+use Rattle.check_call.proofs.Recovering.{Recovering, recovering-none, recovering-all, recovering-fit, recovering-on, recovering-down}
 use Rattle.check_call.proofs.labels.recover.Statement.{statement}
 use Rattle.check_call.proofs.labels.recover.Tie as tie
 
@@ -33,8 +33,8 @@ leaving-requires c κs =
     let l = c in
     omega (arith, recovering-fit _ _ _ _ _ _ _ _ (l .before .loop .inv) (l .before .before .before .before .pre .0) (l .loop-test .taken))
 
-told-requires : tie.Need-told-requires Inv-loop μ-loop
-told-requires c κs = search needs
+label-at-requires : tie.Need-label-at-requires Inv-loop μ-loop
+label-at-requires c κs = search needs
 
 cast-labels : tie.Need-cast-labels Inv-loop μ-loop
 cast-labels c = omega (arith, cells-fit _ _ (c .before .before .before .before .before .before .pre .0))
@@ -73,7 +73,7 @@ loop-again : tie.Need-loop-again Inv-loop μ-loop
 loop-again c =
     let t = c .before in
     let l = t .before .before in
-    recovering-down _ _ _ _ _ _ _ _ (l .before .loop .inv) _ _ (t .before .leaving .ensures) (t .told .ensures)
+    recovering-down _ _ _ _ _ _ _ _ (l .before .loop .inv) _ _ (t .before .leaving .ensures) (t .label-at .ensures)
     (l .loop-test .taken) (within-limits _ _ (l .before .before .before .before .pre .0) .wide) (c .if1 .taken)
 
 loop-less-2 : tie.Need-loop-less-2 Inv-loop μ-loop
@@ -83,7 +83,7 @@ loop-again-2 : tie.Need-loop-again-2 Inv-loop μ-loop
 loop-again-2 c =
     let t = c .before in
     let l = t .before .before in
-    recovering-on _ _ _ _ _ _ _ _ (l .before .loop .inv) _ _ (t .before .leaving .ensures) (t .told .ensures)
+    recovering-on _ _ _ _ _ _ _ _ (l .before .loop .inv) _ _ (t .before .leaving .ensures) (t .label-at .ensures)
     (l .loop-test .taken) (within-limits _ _ (l .before .before .before .before .pre .0) .wide) (c .if1 .left)
 
 same-length : tie.Need-same-length Inv-loop μ-loop
@@ -102,7 +102,7 @@ recover-spec =
     add-point
     loop-holds
     leaving-requires
-    told-requires
+    label-at-requires
     cast-labels
     mul-labels
     slice-write-labels

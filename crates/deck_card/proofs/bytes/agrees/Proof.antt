@@ -3,15 +3,15 @@ use Prim.Native.Nat.{_+_, _-_, _≤_, _<_}
 use native.Mathlib.Omega.{arith}
 use lib.ListN.{length}
 use lib.Seq.{slice}
-use Rattle.deck_card.specs.Card.{long, same, card}
+use Rattle.deck_card.specs.Card.{long, equal, card}
 use Rattle.deck_card.proofs.Cards.{length-card}
-use Rattle.deck_card.proofs.Every.{same-stop, same-go, same-end}
+use Rattle.deck_card.proofs.Every.{equal-stop, equal-go, equal-end}
 use Rattle.deck_card.proofs.bytes.agrees.Statement.{statement}
 use Rattle.deck_card.proofs.bytes.agrees.Tie as tie
 
 abbrev Inv-loop : tie.InvT-loop
 Inv-loop bytes content number from to i₀ i =
-    (i ≤ to) × (same (slice i to bytes) (slice i to (card number content)) ≡ same (slice from to bytes)
+    (i ≤ to) × (equal (slice i to bytes) (slice i to (card number content)) ≡ equal (slice from to bytes)
     (slice from to (card number content)))
 
 abbrev μ-loop : tie.MeasureT-loop
@@ -39,7 +39,7 @@ returns c =
     let at-loop = at-loop-test .before in
     let s = at-loop .before .before .before in
     let k = card (s .args .number) (s .args .content .now) in
-    sym (same-stop (s .args .bytes .now) k (s .args .to) (s .pre .1 .1 .0) (reach s) _
+    sym (equal-stop (s .args .bytes .now) k (s .args .to) (s .pre .1 .1 .0) (reach s) _
     (at-loop-test .loop-test .taken) (λ q. c .if1 .taken (q ∙ sym (c .before .byte .ensures))))
     ∙ at-loop .loop .inv .1
 
@@ -57,7 +57,7 @@ loop-again c =
     let k = card (s .args .number) (s .args .content .now) in
     let h : at-loop .loop .i + 1 ≤ s .args .to = omega arith in (
       h,
-      same-go (s .args .bytes .now) k (s .args .to) (s .pre .1 .1 .0) (reach s) _ (at-loop-test .loop-test .taken)
+      equal-go (s .args .bytes .now) k (s .args .to) (s .pre .1 .1 .0) (reach s) _ (at-loop-test .loop-test .taken)
           (c .if1 .left ∙ c .before .byte .ensures)
           ∙ at-loop .loop .inv .1,
     )
@@ -66,7 +66,7 @@ returns-2 : tie.Need-returns-2 Inv-loop μ-loop
 returns-2 c =
     let s = c .before .before .before .before in
     let h : c .before .loop .i ≡ s .args .to = omega arith in
-    sym (same-end (s .args .bytes .now) (card (s .args .number) (s .args .content .now)) (s .args .to)
+    sym (equal-end (s .args .bytes .now) (card (s .args .number) (s .args .content .now)) (s .args .to)
     (c .before .loop .i) h) ∙ c .before .loop .inv .1
 
 pub agrees-spec : {M : Type 1} → statement M

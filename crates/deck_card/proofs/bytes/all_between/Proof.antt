@@ -3,14 +3,14 @@ use Prim.Native.Nat.{_-_}
 use native.Mathlib.Omega.{arith}
 use lib.ListN.{length, drop}
 use Rattle.laws.specs.Every.{every}
-use Rattle.deck_card.specs.Card.{between}
+use Rattle.deck_card.specs.Card.{fromTo}
 use Rattle.laws.proofs.Every.{every-stop, every-go, every-end}
-use Rattle.deck_card.proofs.Every.{between-below, between-above, between-inside}
+use Rattle.deck_card.proofs.Every.{from-to-below, from-to-above, from-to-inside}
 use Rattle.deck_card.proofs.bytes.all_between.Statement.{statement}
 use Rattle.deck_card.proofs.bytes.all_between.Tie as tie
 
 abbrev Inv-loop : tie.InvT-loop
-Inv-loop bytes low high i₀ i = every (between low high) (drop i bytes) ≡ every (between low high) bytes
+Inv-loop bytes low high i₀ i = every (fromTo low high) (drop i bytes) ≡ every (fromTo low high) bytes
 
 abbrev μ-loop : tie.MeasureT-loop
 μ-loop bytes low high i₀ i = length bytes - i
@@ -23,7 +23,7 @@ shared-slice-read-if1 c = omega arith
 
 returns : tie.Need-returns Inv-loop μ-loop
 returns c =
-    sym (every-stop _ _ _ (c .before .before .loop-test .taken) (between-below _ _ _ (c .if1 .taken)))
+    sym (every-stop _ _ _ (c .before .before .loop-test .taken) (from-to-below _ _ _ (c .if1 .taken)))
     ∙ c .before .before .before .loop .inv
 
 shared-slice-read-if2 : tie.Need-shared-slice-read-if2 Inv-loop μ-loop
@@ -31,7 +31,7 @@ shared-slice-read-if2 c = omega arith
 
 returns-2 : tie.Need-returns-2 Inv-loop μ-loop
 returns-2 c =
-    sym (every-stop _ _ _ (c .before .before .before .before .loop-test .taken) (between-above _ _ _ (c .if2 .taken)))
+    sym (every-stop _ _ _ (c .before .before .before .before .loop-test .taken) (from-to-above _ _ _ (c .if2 .taken)))
     ∙ c .before .before .before .before .before .loop .inv
 
 add-i : tie.Need-add-i Inv-loop μ-loop
@@ -45,7 +45,7 @@ loop-again c =
     let at-if1 = c .before .before in
     let at-loop-test = at-if1 .before .before in
     let at-loop = at-loop-test .before in
-    every-go _ _ _ (at-loop-test .loop-test .taken) (between-inside _ _ _ (at-if1 .if1 .left) (c .if2 .left))
+    every-go _ _ _ (at-loop-test .loop-test .taken) (from-to-inside _ _ _ (at-if1 .if1 .left) (c .if2 .left))
     ∙ at-loop .loop .inv
 
 returns-3 : tie.Need-returns-3 Inv-loop μ-loop

@@ -6,7 +6,7 @@ use borrow.Author.Tests.{eq-eqb, ne-eqb, not-true, not-false}
 use Rattle.deck_card.specs.Card.{columns, places, long}
 use Rattle.deck_card.proofs.Parts.{whole-is}
 use Rattle.deck_faults.specs.Fault.{form}
-use Rattle.deck_faults.proofs.Forms.{numbered-is}
+use Rattle.deck_faults.proofs.Forms.{bears-is}
 use Rattle.deck_faults.proofs.form.refusal.Statement.{statement}
 use Rattle.deck_faults.proofs.form.refusal.Tie as tie
 
@@ -55,7 +55,7 @@ decided c =
       ne-eqb _ _ (at-if1 .if1 .left),
       ← (at-whole .whole .ensures),
       not-false (at-whole .whole .result) (at-if2 .if2 .left),
-      numbered-is,
+      bears-is,
       ← (c .agrees .ensures),
     )
 

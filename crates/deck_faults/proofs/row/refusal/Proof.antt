@@ -5,7 +5,7 @@ use borrow.Author.Needs.{needs}
 use borrow.Author.Tests.{not-true, not-false}
 use lib.Seq.{slice}
 use Rattle.laws.specs.Every.{every}
-use Rattle.deck_card.specs.Card.{columns, places, long, blank, lowest, highest, visible, between}
+use Rattle.deck_card.specs.Card.{columns, places, long, blank, lowest, highest, visible, fromTo}
 use Rattle.deck_card.proofs.Parts.{measured-is, part-held, whole-is}
 use Rattle.deck_card.proofs.Table.{part-slice}
 use Rattle.deck_faults.specs.Fault.{row}
@@ -29,7 +29,7 @@ all-between-requires c κs = search needs
 cells-decide : (c : tie.After-all-between)
     → let s = c .before .before .before .before .before .args in
     row (s .cells) (s .number) (s .card .now)
-    ≡ cond (c .all-between .result) (cond (every (between blank blank) (slice (s .cells) columns (s .card .now))) 0 24) 23
+    ≡ cond (c .all-between .result) (cond (every (fromTo blank blank) (slice (s .cells) columns (s .card .now))) 0 24) 23
 unfolding lowest highest visible
 cells-decide c =
     let at-if1 = c .before .before in

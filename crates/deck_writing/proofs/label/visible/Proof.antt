@@ -5,7 +5,7 @@ use lib.ListN.{length, drop}
 use Rattle.laws.specs.Every.{every}
 use Rattle.deck_card.specs.Card.{lowest, highest, visible}
 use Rattle.laws.proofs.Every.{every-stop, every-go, every-end}
-use Rattle.deck_card.proofs.Every.{between-below, between-above, between-inside}
+use Rattle.deck_card.proofs.Every.{from-to-below, from-to-above, from-to-inside}
 use Rattle.deck_writing.proofs.label.visible.Statement.{statement}
 use Rattle.deck_writing.proofs.label.visible.Tie as tie
 
@@ -29,7 +29,7 @@ unfolding lowest highest visible
 returns c =
     let at-loop-test = c .before .before in
     let at-loop = at-loop-test .before in
-    sym (every-stop _ _ _ (at-loop-test .loop-test .taken) (between-below _ _ _ (c .if1 .taken))) ∙ at-loop .loop .inv
+    sym (every-stop _ _ _ (at-loop-test .loop-test .taken) (from-to-below _ _ _ (c .if1 .taken))) ∙ at-loop .loop .inv
 
 mul-if2 : tie.Need-mul-if2 Inv-loop μ-loop
 mul-if2 c = omega arith
@@ -42,7 +42,7 @@ unfolding lowest highest visible
 returns-2 c =
     let at-loop-test = c .before .before .before .before in
     let at-loop = at-loop-test .before in
-    sym (every-stop _ _ _ (at-loop-test .loop-test .taken) (between-above _ _ _ (c .if2 .taken))) ∙ at-loop .loop .inv
+    sym (every-stop _ _ _ (at-loop-test .loop-test .taken) (from-to-above _ _ _ (c .if2 .taken))) ∙ at-loop .loop .inv
 
 add-i : tie.Need-add-i Inv-loop μ-loop
 add-i c = omega arith
@@ -56,7 +56,7 @@ loop-again c =
     let at-if1 = c .before .before in
     let at-loop-test = at-if1 .before .before in
     let at-loop = at-loop-test .before in
-    every-go _ _ _ (at-loop-test .loop-test .taken) (between-inside _ _ _ (at-if1 .if1 .left) (c .if2 .left))
+    every-go _ _ _ (at-loop-test .loop-test .taken) (from-to-inside _ _ _ (at-if1 .if1 .left) (c .if2 .left))
     ∙ at-loop .loop .inv
 
 returns-3 : tie.Need-returns-3 Inv-loop μ-loop

@@ -1,5 +1,5 @@
 -- Recovering the labels of a sheet.
---   told s d v      == the side of dart d by the table s where the dart is present, else v
+--   labelAt s d v   == the side of dart d by the table s where the dart is present, else v
 --   recover w s v i n == the labels of n cells from cell i on, with the label v to the left
 --   Recovering w h s l i x d v == l has the labels of the cells before cell i, which is in column x; d is the north dart
 --                      of its left line, v the label to its left
@@ -20,7 +20,7 @@ use Rattle.paper.specs.Joining.{at}
 use Rattle.paper.specs.Drawing.{recover, recovered}
 use Rattle.point_darts.proofs.Fit.{cells-fit}
 use Rattle.laws.proofs.Column.{column-on, column-back, row-on, row-down}
-use Rattle.check_call.specs.Told.{told}
+use Rattle.check_call.specs.Label.{labelAt}
 
 -- the north dart of the left line of cell i
 abbrev hung : ℕ → ℕ → ℕ
@@ -36,8 +36,8 @@ pub record Recovering (w h : ℕ) (s l : List ℕ) (i x d v : ℕ) : Type 0 wher
 
 -- the label of cell i is the first of those from cell i on
 recover-more : (w : ℕ) (s : List ℕ) (v i n : ℕ) → recover w s v i (suc n)
-    ≡ told s (hung w i) v ∷ recover w s (told s (hung w i) v) (suc i) n
-unfolding recover told at
+    ≡ labelAt s (hung w i) v ∷ recover w s (labelAt s (hung w i) v) (suc i) n
+unfolding recover labelAt at
 recover-more w s v i n = refl
 
 module _ (w h : ℕ) (s l : List ℕ) where
@@ -63,10 +63,10 @@ module _ (w h : ℕ) (s l : List ℕ) where
   more : (i v : ℕ) → length l ≡ w * h → i < w * h → (n : ℕ) → i + n ≡ w * h
       → take i l ++ recover w s v i n ≡ recovered w h s
       → (m : ℕ) × (i + 1 + m ≡ w * h)
-      × (take (i + 1) (set l i (told s (hung w i) v)) ++ recover w s (told s (hung w i) v) (i + 1) m ≡ recovered w h s)
+      × (take (i + 1) (set l i (labelAt s (hung w i) v)) ++ recover w s (labelAt s (hung w i) v) (i + 1) m ≡ recovered w h s)
   more i v e b zero a q = absurd (omega arith)
   more i v e b (suc m) a q =
-      let u = told s (hung w i) v in
+      let u = labelAt s (hung w i) v in
       let k : i < length l = omega arith in
       (m, omega arith, rw (add-one, take-suc-set l i u k, append-snoc, ← recover-more w s v i m) q)
 
@@ -80,8 +80,8 @@ module _ (w h : ℕ) (s l : List ℕ) where
     recovering-fit e b =
         omega (arith, f .line, div-le-self i w, cells-fit w h e, within-limits w h e .widest)
 
-    module _ (d u : ℕ) (g : d ≡ dart p 3) (e : u ≡ told s d v) (b : i < w * h) where
-      here : u ≡ told s (hung w i) v
+    module _ (d u : ℕ) (g : d ≡ dart p 3) (e : u ≡ labelAt s d v) (b : i < w * h) where
+      here : u ≡ labelAt s (hung w i) v
       here = rw (g, f .line) at e
 
       step : (m : ℕ) × (i + 1 + m ≡ w * h)
