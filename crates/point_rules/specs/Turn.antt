@@ -2,7 +2,7 @@
 --   turn m k        == of the lines m, the first of right turn, straight on, left turn and back, coming in direction k; 4 for none
 --   without m t     == the lines of m that are not among the lines t
 --   becomes m t     == what a point with the lines m becomes when the lines t are taken
---   turns, outcomes == the two rules over their whole tables: at 4 m + k and at 16 m + t
+--   turns, becomesAt == the two rules over their whole tables: at 4 m + k and at 16 m + t
 --   turnOf, becomesOf == the rules for any numbers: 4 where one is no mask or no direction
 --   pointTable      == the point table
 --   becoming m l    == what a point becomes that had the lines m and has the lines l left
@@ -39,8 +39,8 @@ becomes m t = cond (impossible m t) 4 (kind (without m t))
 unfoldable pub turns : ℕ → ℕ
 turns i = turn (i / 4) (i % 4)
 
-unfoldable pub outcomes : ℕ → ℕ
-outcomes i = becomes (i / 16) (i % 16)
+unfoldable pub becomesAt : ℕ → ℕ
+becomesAt i = becomes (i / 16) (i % 16)
 
 unfoldable pub turnOf : ℕ → ℕ → ℕ
 turnOf m k = cond (ltb m 16 && ltb k 4) (turn m k) 4
@@ -49,7 +49,7 @@ unfoldable pub becomesOf : ℕ → ℕ → ℕ
 becomesOf m t = cond (ltb m 16 && ltb t 16) (becomes m t) 4
 
 unfoldable pub pointTable : List ℕ
-pointTable = table 256 outcomes
+pointTable = table 256 becomesAt
 
 unfoldable pub becoming : ℕ → ℕ → ℕ
 becoming m l = let taken = without m l in becomesOf (l + taken) taken
