@@ -1,5 +1,5 @@
 -- The bytes of a card.
---   card k c        == the card bears k with the content c
+--   card k c        == the card numbered k with the content c
 use mathlib.Core.Path.{_≡_, refl, sym, ap, _∙_}
 use mathlib.Core.List.{List, [], _∷_, _++_}
 use Prim.Native.Nat.{ℕ, zero, suc, _+_, _-_, _/_, _≤_, _<_}

@@ -1,6 +1,6 @@
 -- Tests that go along a list.
 --   every p (drop i l) == the entries from i on pass the test p
---   equal (slice i e l) (slice i e m) == the lists l and m have the equal entries from i up to e
+--   equal (slice i e l) (slice i e m) == the lists l and m have the same entries from i up to e
 use mathlib.Core.Path.{_≡_, refl}
 use mathlib.Core.Bool.{Bool, true, false, and-false, false≢true}
 use mathlib.Core.List.{List, [], _∷_, _++_}

@@ -1,5 +1,5 @@
 -- A sheet of a size that is one, and its cards.
---   held w k        == how many cells the card bears k holds
+--   held w k        == how many cells the card numbered k holds
 --   rowCards w h    == how many cards hold the rows
 use mathlib.Core.Path.{_≡_, sym, ap, _∙_}
 use mathlib.Core.Bool.{true}

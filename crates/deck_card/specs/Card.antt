@@ -9,7 +9,7 @@
 --   digit n k       == the byte of the decimal digit of n that has k digits after it
 --   digits k n      == the last k digits of n
 --   padded c        == the content c, and blanks after it to the last column of content
---   card k c        == the card bears k with the content c
+--   card k c        == the card numbered k with the content c
 --   whole c         == c is 80 bytes and a line feed
 --   measured w      == w is a width that a card can hold: 1 to 72
 --   part w c        == the first w bytes of c where w is such a width and c is whole, else nothing

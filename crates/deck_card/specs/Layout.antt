@@ -1,7 +1,7 @@
 -- How a sheet is laid out on cards (the paper, "The deck"): a header, then the cards of the rows.
 --   heading w h     == the content of the header: SHEET, a blank, the width and the height as two digits each
 --   rowCards w h    == how many cards hold the rows
---   held w k        == how many cells the card bears k holds on a sheet of width w
+--   held w k        == how many cells the card numbered k holds on a sheet of width w
 use mathlib.Core.List.{List, _∷_, _++_}
 use Prim.Native.Nat.{ℕ}
 use Rattle.deck_card.specs.Card.{blank, digits}

@@ -1,5 +1,5 @@
 -- A card that is not refused is the card of its number and its content, and such a card is not refused.
---   card k c        == the card bears k with the content c
+--   card k c        == the card numbered k with the content c
 use mathlib.Core.Path.{_≡_, refl, sym, ap, _∙_}
 use mathlib.Core.Bool.{true}
 use mathlib.Core.List.{List, [], _∷_, _++_, append-assoc}

@@ -2,14 +2,14 @@
 -- where nothing is refused.
 --   orElse a b      == the refusal a, or b where a is none
 --   bears k c       == columns 73 to 80 of c are the digits of k
---   form k c        == the refusal of the form of the card bears k, whatever its content: 25 not there, 20 not whole, so
+--   form k c        == the refusal of the form of the card numbered k, whatever its content: 25 not there, 20 not whole, so
 --                      not 80 bytes and a line feed, 22 not bearing its number
 --   value a b       == the number whose two digits are the bytes a and b
 --   width c, height c == the values of columns 7-8 and 9-10 of a header
 --   headed c        == these are a size, and columns 1 to 72 are laid out as the header of this size: so the four columns
 --                      are digits
 --   header c        == the refusal of a header: its form's, then 21
---   row w k c       == the refusal of the card bears k with w cells: its form's, then from the left 23 for a cell that
+--   row w k c       == the refusal of the card numbered k with w cells: its form's, then from the left 23 for a cell that
 --                      is not visible and 24 for a column after the cells that is not blank
 use mathlib.Core.Bool.{Bool, cond, _&&_}
 use mathlib.Core.List.{List}

@@ -1,6 +1,6 @@
 -- Judging a deck (the paper, "The deck" and "Refusal numbers and their order"). The bytes are taken card by card, each the
 -- next 81 of them or what is left of them.
---   stopped m k r   == the answer r, unless there is a refusal m at the card bears k
+--   stopped m k r   == the answer r, unless there is a refusal m at the card numbered k
 --   rows w h n k d  == the answer to the bytes d where n cards are still to come, k the next one's number
 --   judged d        == the answer to the bytes d: the size of the sheet, or the first refusal
 use mathlib.Core.Bool.{cond}

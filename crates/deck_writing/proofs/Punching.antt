@@ -1,5 +1,5 @@
 -- The bytes of a deck while it is written, card by card.
---   rowDeck w n k s == the n cards from the card bears k on that hold the cells s
+--   rowDeck w n k s == the n cards from the card numbered k on that hold the cells s
 --   Punching        == the cards written so far stand at the front of the bytes, and those of the cells that are left
 --                      complete them
 use mathlib.Core.Path.{_≡_, refl, sym, ap, _∙_}

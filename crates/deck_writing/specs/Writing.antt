@@ -1,5 +1,5 @@
 -- The deck of a sheet, and writing it (the paper, "The deck" and "Refusal numbers and their order").
---   rowDeck w n k s == the n cards from the card bears k on that hold the cells s
+--   rowDeck w n k s == the n cards from the card numbered k on that hold the cells s
 --   deckOf w h s    == the deck of the sheet s of width w and height h
 --   deckLength w h  == its length
 --   written w h s n == the writer's answer, where n bytes are lent for the deck

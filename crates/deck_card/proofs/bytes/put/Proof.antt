@@ -41,8 +41,8 @@ loop-again c =
           (c .before .loop-test .taken) h (l .inv .1) (c .byte .ensures),
     )
 
-equal-length : tie.Need-same-length Inv-loop μ-loop
-equal-length c = c .before .loop .inv .0 ∙ sym (c .before .before .before .before .pre .1)
+same-length : tie.Need-same-length Inv-loop μ-loop
+same-length c = c .before .loop .inv .0 ∙ sym (c .before .before .before .before .pre .1)
 
 returns : tie.Need-returns Inv-loop μ-loop
 returns c =
@@ -64,5 +64,5 @@ put-spec =
     add-i
     loop-less
     loop-again
-    equal-length
+    same-length
     returns)

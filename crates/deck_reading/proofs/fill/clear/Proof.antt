@@ -50,8 +50,8 @@ loop-again c =
       ),
     )
 
-equal-length : tie.Need-same-length Inv-loop μ-loop
-equal-length c = c .before .loop .inv .1 .0
+same-length : tie.Need-same-length Inv-loop μ-loop
+same-length c = c .before .loop .inv .1 .0
 
 returns : tie.Need-returns Inv-loop μ-loop
 returns c =
@@ -76,5 +76,5 @@ clear-spec =
     add-i
     loop-less
     loop-again
-    equal-length
+    same-length
     returns)

@@ -59,8 +59,8 @@ loop-again c =
 add-result : tie.Need-add-result Inv-loop μ-loop
 add-result c = omega arith
 
-equal-length : tie.Need-same-length Inv-loop μ-loop
-equal-length c = kept (c .before)
+same-length : tie.Need-same-length Inv-loop μ-loop
+same-length c = kept (c .before)
 
 returns : tie.Need-returns Inv-loop μ-loop
 returns c =
@@ -88,5 +88,5 @@ copy-spec =
     loop-less
     loop-again
     add-result
-    equal-length
+    same-length
     returns)

@@ -138,8 +138,8 @@ clear-requires c κs =
     filling-within (s .args .width) (s .args .height) (deck-is s .size) _ (l .table) (l .rest .now) (l .number)
     (l .from) (l .left) (l .inv)
 
-equal-length : tie.Need-same-length Inv-loop μ-loop
-equal-length c =
+same-length : tie.Need-same-length Inv-loop μ-loop
+same-length c =
     let at-clear = c .before .before in
     let at-loop = at-clear .before .before .before in
     let start = at-loop .before .before .before .before .before in
@@ -179,5 +179,5 @@ fill-spec =
     loop-less
     loop-again
     clear-requires
-    equal-length
+    same-length
     returns)

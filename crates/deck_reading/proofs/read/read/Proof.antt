@@ -38,8 +38,8 @@ fill-requires c κs =
     let at-if1 = at-judged .before in
     (sym (at-judged .judged .ensures) ∙ at-answer .answer .given .1, at-if1 .if1 .left)
 
-equal-length : tie.Need-same-length
-equal-length c = search needs
+same-length : tie.Need-same-length
+same-length c = search needs
 
 returns-3 : tie.Need-returns-3
 unfolding room
@@ -64,5 +64,5 @@ read-spec =
     enum-told
     returns-2
     fill-requires
-    equal-length
+    same-length
     returns-3)

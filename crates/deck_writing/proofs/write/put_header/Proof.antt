@@ -32,8 +32,8 @@ put-requires c κs =
       length-take-le long (s .args .deck .now) (s .pre),
     )
 
-equal-length : tie.Need-same-length
-equal-length c = search needs
+same-length : tie.Need-same-length
+same-length c = search needs
 
 returns : tie.Need-returns
 unfolding columns places long
@@ -48,5 +48,5 @@ put-header-spec =
     slice-aggregate-put
     slice-aggregate-put-2
     put-requires
-    equal-length
+    same-length
     returns)

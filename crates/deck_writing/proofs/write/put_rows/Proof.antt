@@ -146,8 +146,8 @@ loop-again c =
     (middle (l .at) (l .deck) (card (l .number) (take (held (s .args .width) (l .number)) (l .rest .now)))))
     (rest-all (at-held .held .result) (l .rest .now) ∙ ap (λ n. drop n (l .rest .now)) (at-held .held .ensures))
 
-equal-length : tie.Need-same-length Inv-loop μ-loop
-equal-length c = kept (c .before)
+same-length : tie.Need-same-length Inv-loop μ-loop
+same-length c = kept (c .before)
 
 returns : tie.Need-returns Inv-loop μ-loop
 returns c =
@@ -180,5 +180,5 @@ put-rows-spec =
     add-number
     loop-less
     loop-again
-    equal-length
+    same-length
     returns)

@@ -111,8 +111,8 @@ put-rows-requires c κs =
       (at-if2 .if2 .left, (at-put-header .put-header .kept .1 .1 .0 ∙ length-is at-if3, labels-are at-if4)),
     )
 
-equal-length : tie.Need-same-length
-equal-length c = search needs
+same-length : tie.Need-same-length
+same-length c = search needs
 
 returns-5 : tie.Need-returns-5
 returns-5 c =
@@ -146,5 +146,5 @@ write-spec =
     returns-4
     put-header-requires
     put-rows-requires
-    equal-length
+    same-length
     returns-5)
