@@ -14,7 +14,7 @@ use Rattle.laws.proofs.First.{all-passed, failed-below}
 use Rattle.sheet_size.specs.Size.{within}
 use Rattle.paper.specs.Enclosure.{depth, holes}
 use Rattle.paper.specs.Drawing.{Tables, isDrawing}
-use Rattle.paper.specs.Refusal.{sized, stated, cleared, five, sizeTests, givenTests}
+use Rattle.paper.specs.Refusal.{sized, stated, five, sizeTests, givenTests}
 use Rattle.answer.specs.declared.Answer.{Answer}
 use Rattle.answer.specs.Answer.{numberOf, told}
 use Rattle.answer.proofs.Outcome.{work-left, told-early, told-refused, told-done}
@@ -90,9 +90,10 @@ module _ (w h : ℕ) (t : Tables) (ds hs : List ℕ) (ws : List (List ℕ)) (f :
           told-refused v (tallyRefusal w h t ds hs ws) same-number n [] kept filled ws vs
           (given-work w h t ws v vs c ∙ ap (λ k. work-left k ws) (sym same-tests))
 
-      pub tally-done : numberOf v ≡ 0 → (ds′ hs′ : List ℕ) → ds′ ≡ counts depth (t .parent) → hs′ ≡ counts holes (t .parent)
+      pub tally-done : numberOf v ≡ 0 → (ds′ hs′ : List ℕ) → ds′ ≡ counts depth (t .parent)
+          → hs′ ≡ counts holes (t .parent)
           → told Answer.Done (five t ++ ds′ ∷ hs′ ∷ []) vs ≡ tallied w h t ds hs ws
       unfolding tallied numberOf
       tally-done d ds′ hs′ p q =
-          told-done Answer.Done (tallyRefusal w h t ds hs ws) (sym d ∙ same-number) refl kept filled ws (five t ++ ds′ ∷ hs′ ∷ []) vs
-          (rw (p, q)) (accepted-work w h t ws v vs c d)
+          told-done Answer.Done (tallyRefusal w h t ds hs ws) (sym d ∙ same-number) refl kept filled ws
+          (five t ++ ds′ ∷ hs′ ∷ []) vs (rw (p, q)) (accepted-work w h t ws v vs c d)

@@ -1,11 +1,11 @@
 -- What a count answers after a check tells the outcome of the count.
 --   after v k x     == what a count answers after a check that answered v, of a name that k says is known, with the value x
-use mathlib.Core.Path.{_≡_, refl, sym, ap, _∙_}
+use mathlib.Core.Path.{_≡_, refl, sym, _∙_}
 use mathlib.Core.Bool.{Bool, true, false}
 use mathlib.Core.List.{List, [], _∷_}
 use Prim.Native.Nat.{ℕ}
 use native.Mathlib.Omega.{arith}
-use lib.Dec.{eqb, lit≤}
+use lib.Dec.{eqb}
 use borrow.Author.Tests.{eqb-true, eqb-false}
 use Rattle.laws.proofs.First.{none-left, failed-here, failed-later}
 use Rattle.paper.specs.Drawing.{Tables}

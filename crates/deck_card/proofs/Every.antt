@@ -9,8 +9,8 @@ use native.Mathlib.Nat.{le-refl}
 use native.Mathlib.Numerals.{add-one}
 use native.Mathlib.Omega.{arith}
 use lib.Dec.{eqb, leb}
-use lib.ListN.{length, getD, take, drop, replicate, drop-of-length-le}
-use lib.Seq.{drop-cons, slice, slice-cons, slice-empty}
+use lib.ListN.{length, getD, take, drop, replicate}
+use lib.Seq.{slice, slice-cons, slice-empty}
 use borrow.Author.Tests.{eqb-true, eq-eqb, ne-eqb, le-leb, lt-leb, leb-true}
 use Rattle.laws.proofs.Test.{and-left, and-right}
 use Rattle.laws.specs.Every.{every}

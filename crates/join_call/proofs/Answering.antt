@@ -2,14 +2,14 @@
 --   merged w h t a b ws == the outcome of joining a and b in the tables t with the work tables ws
 --   asked v w h s p a b == the number after a check that answered v, of the names a and b by the sides s and the parents p
 use mathlib.Core.Path.{_≡_, refl, sym, ap, ap₂, _∙_}
-use mathlib.Core.Bool.{Bool, true, false, not, _&&_, _||_}
+use mathlib.Core.Bool.{Bool, true, false, _&&_, _||_}
 use mathlib.Core.List.{List, [], _∷_, _++_}
 use mathlib.Core.Logic.{_≢_}
 use Prim.Native.Nat.{ℕ}
 use native.Mathlib.Omega.{arith}
-use lib.Dec.{eqb, lit<, lit≤}
+use lib.Dec.{eqb, lit<}
 use lib.ListN.{length, replicate, length-replicate}
-use borrow.Author.Tests.{eqb-true, eqb-false, eq-eqb, ne-eqb, not-true, not-false}
+use borrow.Author.Tests.{eqb-true, eqb-false, eq-eqb, ne-eqb, not-true}
 use Rattle.laws.specs.First.{firstFailed, numbered}
 use Rattle.laws.proofs.First.{Passed, all-passed, failed-from}
 use Rattle.laws.proofs.Test.{and-left, and-right}

@@ -1,6 +1,6 @@
 -- A test that goes along a list.
 --   every p (drop i l) == the entries from i on pass the test p
-use mathlib.Core.Path.{_≡_, refl}
+use mathlib.Core.Path.{_≡_}
 use mathlib.Core.Bool.{Bool, true, false}
 use mathlib.Core.List.{List}
 use Prim.Native.Nat.{ℕ, _+_, _≤_, _<_}

@@ -114,7 +114,8 @@ module _ (n : ℕ) (m t : List ℕ) where
       flag-at i p d (rw e at f) (ℕ-discrete p (at t i)) ∙ sym (getD-table n (λ p. number (stands (i + 1) m t p)) p 0 d)))
 
   -- a point more, as its kind is found
-  module _ (ks k l : List ℕ) (i v g : ℕ) (f : k ≡ flags n m t i) (e : ks ≡ kinding) (at-v : v ≡ at m i) (at-g : g ≡ at ks v) where
+  module _ (ks k l : List ℕ) (i v g : ℕ) (f : k ≡ flags n m t i) (e : ks ≡ kinding)
+      (at-v : v ≡ at m i) (at-g : g ≡ at ks v) where
     found : (j : ℕ) → eqb g j ≡ eqb (at kinding v) j
     found j = rw (at-g, e)
 
@@ -136,7 +137,8 @@ module _ (w h : ℕ) (m t : List ℕ) where
   unfolding at
   settled-at n p b = rw (getD-table n (λ p. number (stands n m t p)) p mark b) (number-test (stands n m t p))
 
-  pub settled-keeps : (n : ℕ) (k u : List ℕ) → n ≡ points w h → k ≡ flags n m t n → u ≡ table n (settles m t k) → u ≡ keeps w h m t
+  pub settled-keeps : (n : ℕ) (k u : List ℕ) → n ≡ points w h → k ≡ flags n m t n → u ≡ table n (settles m t k)
+      → u ≡ keeps w h m t
   unfolding keeps settles anchored
   settled-keeps n k u q e f =
       f

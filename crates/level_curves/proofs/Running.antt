@@ -69,14 +69,16 @@ module _ (x k : List ℕ) (d : ℕ) where
   unfolding starts on keptAt
   in-start e f = rw (ne-eqb _ mark e, eq-eqb _ 1 f)
 
-  pub starts-off : (v y z : ℕ) → v ≡ at x d → v ≡ mark → (mark ≡ cond (starts x k d) y mark) × (mark ≡ cond (starts x k d) z mark)
+  pub starts-off : (v y z : ℕ) → v ≡ at x d → v ≡ mark
+      → (mark ≡ cond (starts x k d) y mark) × (mark ≡ cond (starts x k d) z mark)
   starts-off v y z e f = rw (off-start (sym e ∙ f)) (refl, refl)
 
   pub starts-out : (u y z : ℕ) → u ≡ at k (point d) → u ≢ 1
       → (mark ≡ cond (starts x k d) y mark) × (mark ≡ cond (starts x k d) z mark)
   starts-out u y z g h = rw (out-start (λ q. h (g ∙ q))) (refl, refl)
 
-  pub starts-in : (n v u l a : ℕ) → v ≡ at x d → v ≢ mark → u ≡ at k (point d) → u ≡ 1 → l ≡ lastOf n x k d → a ≡ at x l
+  pub starts-in : (n v u l a : ℕ) → v ≡ at x d → v ≢ mark → u ≡ at k (point d) → u ≡ 1
+      → l ≡ lastOf n x k d → a ≡ at x l
       → (a ≡ cond (starts x k d) (at x (lastOf n x k d)) mark)
       × (dart (point a) (turned (direction l) 2) ≡ cond (starts x k d) (back x (lastOf n x k d)) mark)
   unfolding back ahead

@@ -20,7 +20,8 @@ beside-rest w p (suc zero) a b c = absurd (b refl)
 beside-rest w p (suc (suc zero)) a b c = absurd (c refl)
 beside-rest w p (suc (suc (suc k))) a b c = refl
 
-pub right-rest : (c : List (List ℕ)) (k : ℕ) → (k ≡ 0 → ⊥) → (k ≡ 1 → ⊥) → (k ≡ 2 → ⊥) → (k ≡ 3 → ⊥) → right c k ≡ 0
+pub right-rest : (c : List (List ℕ)) (k : ℕ) → (k ≡ 0 → ⊥) → (k ≡ 1 → ⊥) → (k ≡ 2 → ⊥) → (k ≡ 3 → ⊥)
+    → right c k ≡ 0
 unfolding right
 right-rest c zero h i j l = absurd (h refl)
 right-rest c (suc zero) h i j l = absurd (i refl)
@@ -28,7 +29,8 @@ right-rest c (suc (suc zero)) h i j l = absurd (j refl)
 right-rest c (suc (suc (suc zero))) h i j l = absurd (l refl)
 right-rest c (suc (suc (suc (suc k)))) h i j l = refl
 
-pub left-rest : (c : List (List ℕ)) (k : ℕ) → (k ≡ 0 → ⊥) → (k ≡ 1 → ⊥) → (k ≡ 2 → ⊥) → (k ≡ 3 → ⊥) → left c k ≡ 0
+pub left-rest : (c : List (List ℕ)) (k : ℕ) → (k ≡ 0 → ⊥) → (k ≡ 1 → ⊥) → (k ≡ 2 → ⊥) → (k ≡ 3 → ⊥)
+    → left c k ≡ 0
 unfolding left
 left-rest c zero h i j l = absurd (h refl)
 left-rest c (suc zero) h i j l = absurd (i refl)

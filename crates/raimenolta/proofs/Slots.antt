@@ -23,7 +23,8 @@ use Rattle.raimenolta_values.specs.Put.{countHeld, refusal, sizeHeld, cardHeld}
 use Rattle.raimenolta.specs.Slot.{doneHeld, refusedHeld, slotted, slottedTwice, carded}
 
 -- the outcome of a count that is done has its value
-valued : (k x : ℕ) (ts us ws : List (List ℕ)) → outcome k (x ∷ []) ts us ws .number ≡ 0 → outcome k (x ∷ []) ts us ws .values ≢ []
+valued : (k x : ℕ) (ts us ws : List (List ℕ)) → outcome k (x ∷ []) ts us ws .number ≡ 0
+    → outcome k (x ∷ []) ts us ws .values ≢ []
 unfolding outcome
 valued zero x ts us ws e q = omega (arith, ap length q)
 valued (suc k) x ts us ws e q = omega (arith, e)
@@ -39,12 +40,15 @@ module _ (w h : ℕ) (t : Tables) (r : ℕ) (ws : List (List ℕ)) where
 
 -- A count's answer, with its value in a slot.
 module _ (ts ws : List (List ℕ)) (o : Outcome) (l n v : ℕ) where
-  pub count-slotted : (r : Count) → n ≡ countNumber r → v ≡ countHeld r l → counted r ts ws ≡ o → (o .number ≡ 0 → o .values ≢ [])
+  pub count-slotted : (r : Count) → n ≡ countNumber r → v ≡ countHeld r l → counted r ts ws ≡ o
+      → (o .number ≡ 0 → o .values ≢ [])
       → ended n [] (ts ++ (v ∷ []) ∷ []) ws ≡ slotted o (l ∷ [])
   unfolding counted countNumber values slotted doneHeld countHeld
   count-slotted (Count.Is i) p q e f = rw (← e, p, q)
   count-slotted (Count.Refused r) p q e f =
-      rw (← e, p, q, ne-eqb (numberOf r) 0 (λ z. f (ap (λ (u : Outcome). u .number) (sym e) ∙ z) (ap (λ (u : Outcome). u .values) (sym e))))
+      let i = ap (λ (u : Outcome). u .number) (sym e) in
+      let j = ap (λ (u : Outcome). u .values) (sym e) in
+      rw (← e, p, q, ne-eqb (numberOf r) 0 (λ z. f (i ∙ z) j))
 
 -- The reader's answer, with the size in one slot and the card in another.
 module _ (d t u s z : List ℕ) (k n y : ℕ) where

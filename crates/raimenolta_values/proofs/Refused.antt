@@ -1,5 +1,5 @@
 -- A refused count leaves its slot.
-use mathlib.Core.Path.{_≡_, refl}
+use mathlib.Core.Path.{_≡_}
 use Prim.Native.Nat.{ℕ}
 use Rattle.answer.specs.declared.Answer.{Answer}
 use Rattle.count_answer.specs.declared.Count.{Count}

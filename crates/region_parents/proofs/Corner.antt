@@ -5,7 +5,7 @@ use mathlib.Core.Path.{_≡_, refl, sym, _∙_, ap}
 use mathlib.Core.Bool.{Bool, true, false, cond, _&&_}
 use mathlib.Core.List.{List}
 use Prim.Native.Nat.{ℕ, _+_, _*_, _/_, _%_, _≤_, _<_}
-use native.Mathlib.Nat.{add-zero, mod-lt, mod-eq-of-lt, div-eq-of-lt}
+use native.Mathlib.Nat.{mod-lt, mod-eq-of-lt, div-eq-of-lt}
 use native.Mathlib.Numerals.{add-one}
 use native.Mathlib.Omega.{arith}
 use lib.Dec.{eqb, lit<}
@@ -104,7 +104,8 @@ module _ (w : ℕ) (o : ℕ → Bool) (d : ℕ → ℕ) (t : List ℕ) where
         record { half = more; column = column-back w pos i x (p .column) q; corner = omega arith }
 
   -- all names
-  pub parented-all : (n : ℕ) (s u : List ℕ) (i x k : ℕ) → Parented w f s u i x k → length s ≡ n + 1 → n ≤ i → u ≡ table (n + 1) f
+  pub parented-all : (n : ℕ) (s u : List ℕ) (i x k : ℕ) → Parented w f s u i x k → length s ≡ n + 1 → n ≤ i
+      → u ≡ table (n + 1) f
   parented-all n s u i x k p l h = half-all f (n + 1) (i + 1) s u (p .half) l (omega arith)
 
 module _ (w h : ℕ) (f : ℕ → ℕ) (s u : List ℕ) (i x k : ℕ) (p : Parented w f s u i x k) where

@@ -1,5 +1,5 @@
 use borrow.Author.Needs.{needs}
-use mathlib.Core.Path.{refl, sym, _∙_}
+use mathlib.Core.Path.{sym, _∙_}
 use Rattle.level_call.proofs.Refused.{all-fit, refused, done}
 use Rattle.level_call.proofs.draw.draw.Statement.{statement}
 use Rattle.level_call.proofs.draw.draw.Tie as tie

@@ -1,7 +1,7 @@
-use mathlib.Core.Path.{ap, ap₂, _∙_}
+use mathlib.Core.Path.{ap, _∙_}
 use native.Mathlib.Omega.{arith}
 use borrow.Author.Needs.{needs}
-use Rattle.point_darts.specs.Dart.{mark, dart, point, turned}
+use Rattle.point_darts.specs.Dart.{mark, dart, point}
 use Rattle.point_darts.proofs.Darts.{direction-below, turned-below}
 use Rattle.paper.specs.Joining.{at}
 use Rattle.level_curves.proofs.Running.{starts-off, starts-out, starts-in}

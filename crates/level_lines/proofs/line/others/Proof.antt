@@ -3,7 +3,7 @@ use Prim.Native.Nat.{_-_}
 use native.Mathlib.Omega.{arith}
 use Rattle.paper.specs.Level.{marked}
 use Rattle.point_darts.specs.Dart.{reversal}
-use Rattle.point_darts.proofs.Fit.{points-fit, point-fits}
+use Rattle.point_darts.proofs.Fit.{point-fits}
 use Rattle.table_entries.proofs.Passed.{Passed, passed-none, passed-room, passed-more, passed-all}
 use Rattle.level_lines.specs.Line.{entryOf, others}
 use Rattle.level_lines.proofs.line.others.Statement.{statement}

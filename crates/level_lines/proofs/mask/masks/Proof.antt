@@ -3,7 +3,6 @@ use Prim.Native.Nat.{_-_}
 use native.Mathlib.Omega.{arith}
 use Rattle.point_darts.specs.Dart.{points}
 use Rattle.point_darts.specs.Point.{present}
-use Rattle.point_darts.proofs.Fit.{points-fit}
 use Rattle.table_entries.proofs.Filled.{Filled, filled-none, filled-more, filled-all}
 use Rattle.level_lines.specs.Mask.{around, masked}
 use borrow.Author.Needs.{needs}

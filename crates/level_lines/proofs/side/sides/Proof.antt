@@ -2,7 +2,6 @@ use mathlib.Core.Path.{sym, _∙_}
 use Prim.Native.Nat.{_-_}
 use native.Mathlib.Omega.{arith}
 use Rattle.paper.specs.Level.{marked}
-use Rattle.point_darts.proofs.Fit.{points-fit}
 use Rattle.table_entries.proofs.Passed.{Passed, passed-none, passed-room, passed-more, passed-all}
 use Rattle.level_lines.specs.Line.{entryOf}
 use Rattle.level_lines.specs.Side.{beheld, sides}

@@ -1,5 +1,4 @@
-use mathlib.Core.Path.{ap, _∙_}
-use mathlib.Core.Bool.{cond}
+use mathlib.Core.Path.{_∙_}
 use Prim.Native.Nat.{_-_}
 use native.Mathlib.Omega.{arith}
 use borrow.Author.Needs.{needs}

@@ -1,7 +1,7 @@
-use mathlib.Core.Path.{ap, _∙_}
+use mathlib.Core.Path.{_∙_}
 use native.Mathlib.Omega.{arith}
 use borrow.Author.Needs.{needs}
-use Rattle.point_darts.specs.Dart.{mark, dart, point, beside, far, turned, reversal}
+use Rattle.point_darts.specs.Dart.{mark, point, beside, far, reversal}
 use Rattle.point_darts.proofs.Darts.{direction-below}
 use Rattle.point_darts.proofs.Back.{back-fits}
 use Rattle.point_darts.proofs.dart.Dart.back.Statement.{statement}
