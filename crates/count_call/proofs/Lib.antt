@@ -1,3 +1,4 @@
 mod Accepted
 mod Counting
+mod Outcomes
 mod Told

@@ -9,7 +9,7 @@ use borrow.Author.Tests.{eq-eqb, eqb-true}
 use Rattle.laws.proofs.Test.{and-true, and-left, and-right}
 use Rattle.paper.specs.Drawing.{alike}
 
-alike-equal : (xs ys : List ℕ) → alike xs ys ≡ true → xs ≡ ys
+pub alike-equal : (xs ys : List ℕ) → alike xs ys ≡ true → xs ≡ ys
 unfolding alike
 alike-equal [] [] e = refl
 alike-equal [] (y ∷ ys) e = absurd (false≢true e)

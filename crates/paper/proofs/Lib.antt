@@ -1,2 +1,5 @@
 pub mod Alike
+pub mod Cases
 mod Marked
+pub mod Opened
+pub mod Outcomes

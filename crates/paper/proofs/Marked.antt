@@ -1,52 +1,32 @@
 -- The cases that the paper marks P, proved about its definitions by one statement over one list.
 --   Claim           == what the definitions compute, and what the paper states
---   hold cs         == each claim computes what it states: a test, so that antt computes each side once
 --   darts w h s     == how many darts the levels 0, 1, 2 and 3 have
 --   ones t          == the darts that a table of links has, in order
 --   read t ds       == the entries of a table at some places
 --   refusal ..      == the number of joining a with b in the drawing of a sheet
 --   hanging w h l   == the points that have exactly one line of the links l
---   Case            == a sheet of a size, and two of its regions
-use mathlib.Core.Path.{_≡_, refl, ap₂}
-use mathlib.Core.Bool.{Bool, true, false, _&&_}
+--   Join            == a sheet of a size, and two of its regions
+use mathlib.Core.Path.{_≡_, refl}
+use mathlib.Core.Bool.{Bool, true, false}
 use mathlib.Core.List.{List, [], _∷_, _++_, map}
 use Prim.Native.Nat.{ℕ, zero, suc}
 use lib.Dec.{eqb, ltb}
-use Rattle.laws.specs.Table.{table, number, count, some}
-use Rattle.laws.specs.First.{firstFailed}
-use Rattle.laws.specs.Least.{lower, tie, ties, least}
-use Rattle.laws.specs.Run.{run}
-use Rattle.sheet_size.specs.Size.{widest, within}
-use Rattle.point_darts.specs.Dart.{mark, points, slots, dart, point, direction, beside, far, turned, reversal, stays, line}
-use Rattle.point_darts.specs.Point.{bits, half, has, corner, right, left, parts, present, degree, inline}
-use Rattle.point_rules.specs.Turn.{turn}
-use Rattle.paper.specs.Name.{label, west, north, names, named, cells}
-use Rattle.paper.specs.Level.{side, border, mask, next, plain, last, along, big, bent, tops, anchor, kept2, kept3, among}
-use Rattle.paper.specs.Level.{level, marked}
-use Rattle.paper.specs.Enclosure.{topSide, parent, parents, above, depth, holes}
-use Rattle.paper.specs.Drawing.{Tables, drawn, drawing, fresh, recover, recovered, alike, same, isDrawing}
-use Rattle.paper.specs.Joining.{Links, at, on, between, shared, chase, removed, rest1, rest3, low, high, spliced}
-use Rattle.paper.specs.Joining.{smooth, smooths, smoothed, moved, close, closes, closed, joined}
-use Rattle.paper.specs.Refusal.{sized, outcome, five, stated, sizeTests, givenTests, used, adjoin, nameTests}
-use Rattle.paper.specs.Refusal.{joinRefusal, merged}
-use Rattle.laws.proofs.Test.{and-left, and-right}
-use Rattle.paper.proofs.Alike.{alike-iff}
+use lib.ListN.{set}
+use Rattle.laws.specs.Table.{number, count}
+use Rattle.point_darts.specs.Dart.{mark, points, slots}
+use Rattle.point_darts.specs.Point.{degree}
+use Rattle.paper.specs.Name.{names}
+use Rattle.paper.specs.Level.{mask, level, marked}
+use Rattle.paper.specs.Enclosure.{depth, holes}
+use Rattle.paper.specs.Drawing.{Tables, drawing, fresh, alike, isDrawing}
+use Rattle.paper.specs.Joining.{Links, at, on, rest1, rest3, joined}
+use Rattle.paper.specs.Refusal.{merged}
+use Rattle.paper.proofs.Alike.{alike-equal}
+use Rattle.paper.proofs.Cases.{Case, failed, none-failed}
+use Rattle.paper.proofs.Opened.{opened}
 
-record Claim : Type 0 where
-  computed : List ℕ
-  stated : List ℕ
-
-hold : List Claim → Bool
-hold [] = true
-hold (c ∷ cs) = alike (c .computed) (c .stated) && hold cs
-
-hold-same : (cs : List Claim) → hold cs ≡ true
-    → map (λ (c : Claim). c .computed) cs ≡ map (λ (c : Claim). c .stated) cs
-unfolding hold
-hold-same [] h = refl
-hold-same (c ∷ cs) h =
-    ap₂ _∷_ (alike-iff (c .computed) (c .stated) .0 (and-left _ (hold cs) h))
-    (hold-same cs (and-right (alike (c .computed) (c .stated)) _ h))
+abbrev Claim : Type 0
+Claim = Case (List ℕ)
 
 darts : ℕ → ℕ → List ℕ → List ℕ
 darts w h s =
@@ -95,8 +75,30 @@ row = 65 ∷ 66 ∷ 65 ∷ []
 halves : List ℕ
 halves = 65 ∷ 66 ∷ 65 ∷ 66 ∷ []
 
+-- a closed curve that is no rectangle: its topmost point is not its leftmost
+bent-inside : List ℕ
+bent-inside = 65 ∷ 65 ∷ 65 ∷ 65 ∷ 65 ∷ 65 ∷ 66 ∷ 65 ∷ 65 ∷ 66 ∷ 66 ∷ 65 ∷ 65 ∷ 65 ∷ 65 ∷ 65 ∷ []
+
+-- the same with its lower left cell a region of its own
+bent-parts : List ℕ
+bent-parts = 65 ∷ 65 ∷ 65 ∷ 65 ∷ 65 ∷ 65 ∷ 66 ∷ 65 ∷ 65 ∷ 67 ∷ 66 ∷ 65 ∷ 65 ∷ 65 ∷ 65 ∷ 65 ∷ []
+
 accepted : ℕ → ℕ → Tables → List ℕ
 accepted w h t = number (isDrawing w h t) ∷ []
+
+-- the same of the five tables with one entry changed: of the first table alone, of the second alone, and on
+spoilt : ℕ → ℕ → Tables → List ℕ
+spoilt w h t =
+    let n = t .next1 in
+    let s = t .side1 in
+    let m = t .next3 in
+    let o = t .other3 in
+    let p = t .parent in
+    accepted w h (record { next1 = set n 4 5; side1 = s; next3 = m; other3 = o; parent = p })
+    ++ accepted w h (record { next1 = n; side1 = set s 4 5; next3 = m; other3 = o; parent = p })
+    ++ accepted w h (record { next1 = n; side1 = s; next3 = set m 4 5; other3 = o; parent = p })
+    ++ accepted w h (record { next1 = n; side1 = s; next3 = m; other3 = set o 4 5; parent = p })
+    ++ accepted w h (record { next1 = n; side1 = s; next3 = m; other3 = o; parent = set p 2 1 })
 
 claims : List Claim
 claims =
@@ -155,24 +157,29 @@ beside-claims =
     ∷ record { computed = (drawing 1 1 (0 ∷ [])) .side1; stated = (drawing 1 1 p1) .side1 }
     -- and a cell's label may be the mark
     ∷ record { computed = (drawing 2 1 (65535 ∷ 65535 ∷ [])) .next3; stated = (drawing 2 1 p3) .next3 }
-    -- the test of refusal 5 is passed by a drawing, also after joins, and not by one in which a single entry differs
+    -- the test of refusal 5 is passed by a drawing, also after joins, not by that of another size, nor by one in which a single
+    -- entry differs
     ∷ record { computed = accepted 2 2 (drawing 2 2 p7); stated = 1 ∷ [] }
     ∷ record { computed = accepted 3 1 (joined 3 1 (drawing 3 1 row) 1 2); stated = 1 ∷ [] }
     ∷ record { computed = accepted 2 1 (drawing 2 2 p7); stated = 0 ∷ [] }
+    ∷ record { computed = spoilt 2 1 (drawing 2 1 p2); stated = 0 ∷ 0 ∷ 0 ∷ 0 ∷ 0 ∷ [] }
     -- depth and hole count of the outside, of a ring and of what the ring encloses
     ∷ record { computed = map (depth ((drawing 3 3 p5) .parent)) (0 ∷ 1 ∷ 5 ∷ []); stated = 0 ∷ 1 ∷ 2 ∷ [] }
     ∷ record { computed = map (holes ((drawing 3 3 p5) .parent)) (0 ∷ 1 ∷ 5 ∷ []); stated = 1 ∷ 1 ∷ 0 ∷ [] }
+    -- the anchor of a closed curve is its topmost point, and not its leftmost, drawn and after a join
+    ∷ record { computed = ones 4 4 ((drawing 4 4 bent-inside) .next3); stated = 0 ∷ 1 ∷ 28 ∷ 29 ∷ [] }
+    ∷ record { computed = ones 4 4 ((joined 4 4 (drawing 4 4 bent-parts) 7 10) .next3); stated = 0 ∷ 1 ∷ 28 ∷ 29 ∷ [] }
     ∷ []
 
 -- After step 1 no point has exactly one line, at level 1 and at level 3: the joins of the cases, and one more.
-record Case : Type 0 where
+record Join : Type 0 where
   w : ℕ
   h : ℕ
   sheet : List ℕ
   a : ℕ
   b : ℕ
 
-joins : List Case
+joins : List Join
 joins =
     record { w = 2; h = 1; sheet = p2; a = 1; b = 2 }
     ∷ record { w = 3; h = 3; sheet = p8; a = 1; b = 2 }
@@ -183,71 +190,40 @@ joins =
 hanging : ℕ → ℕ → Links → List ℕ
 hanging w h l = picked (λ p. eqb (degree (mask (on (l .next)) p)) 1) 0 (points w h)
 
-hanging-ends : Case → List ℕ
-hanging-ends c =
-    let t = drawing (c .w) (c .h) (c .sheet) in
-    hanging (c .w) (c .h) (rest1 (c .w) (c .h) t (c .a) (c .b))
-    ++ hanging (c .w) (c .h) (rest3 (c .w) (c .h) t (c .a) (c .b))
+hanging-ends : Join → List ℕ
+hanging-ends j =
+    let t = drawing (j .w) (j .h) (j .sheet) in
+    hanging (j .w) (j .h) (rest1 (j .w) (j .h) t (j .a) (j .b))
+    ++ hanging (j .w) (j .h) (rest3 (j .w) (j .h) t (j .a) (j .b))
 
-none : List Case → Bool
-none [] = true
-none (c ∷ cs) = alike (hanging-ends c) [] && none cs
-
--- the definitions that the claims compute with, opened room by room
-laws-open : Unit {0}
-unfolding table count some lower tie ties least run
-laws-open = tt
-
-points-open : Unit {0}
-unfolding widest within mark points slots dart point direction beside far turned reversal stays line turn
-points-open = tt
-
-masks-open : Unit {0}
-unfolding bits half has corner right left parts present degree inline
-masks-open = tt
-
-levels-open : Unit {0}
-unfolding label west north names named cells side border mask next plain last along big bent tops anchor kept2 kept3 among
-levels-open = tt
-
-drawings-open : Unit {0}
-unfolding level marked topSide parent parents above depth holes drawn drawing fresh recover recovered alike same isDrawing
-drawings-open = tt
-
-joins-open : Unit {0}
-unfolding at on between shared chase removed rest1 rest3 low high spliced smooth smooths smoothed moved close closes closed joined
-joins-open = tt
-
-refusals-open : Unit {0}
-unfolding firstFailed sized outcome five stated sizeTests givenTests used adjoin nameTests joinRefusal merged
-refusals-open = tt
+hanging-claims : List Claim
+hanging-claims = map (λ j. record { computed = hanging-ends j; stated = [] }) joins
 
 sheets-open : Unit {0}
-unfolding p1 p2 p3 p5 p6 p7 p8 row halves
+unfolding p1 p2 p3 p5 p6 p7 p8 row halves bent-inside bent-parts
 sheets-open = tt
 
 cases-open : Unit {0}
-unfolding refusal accepted darts picked ones read hold claims beside-claims joins hanging hanging-ends none
+unfolding opened sheets-open refusal accepted spoilt darts picked ones read claims beside-claims joins hanging hanging-ends hanging-claims
 cases-open = tt
 
-opened : Unit {0}
-unfolding laws-open points-open masks-open levels-open drawings-open joins-open refusals-open sheets-open cases-open
-opened = tt
-
-no-hanging-ends : none joins ≡ true
-unfolding opened
-no-hanging-ends = refl
-
-claims-hold : hold claims ≡ true
-unfolding opened
+claims-hold : failed alike 0 claims ≡ []
+unfolding cases-open
 claims-hold = refl
 
-beside-hold : hold beside-claims ≡ true
-unfolding opened
+beside-hold : failed alike 0 beside-claims ≡ []
+unfolding cases-open
 beside-hold = refl
 
+hanging-hold : failed alike 0 hanging-claims ≡ []
+unfolding cases-open
+hanging-hold = refl
+
 marked-cases : map (λ (c : Claim). c .computed) claims ≡ map (λ (c : Claim). c .stated) claims
-marked-cases = hold-same claims claims-hold
+marked-cases = none-failed alike alike-equal 0 claims claims-hold
 
 cases-beside : map (λ (c : Claim). c .computed) beside-claims ≡ map (λ (c : Claim). c .stated) beside-claims
-cases-beside = hold-same beside-claims beside-hold
+cases-beside = none-failed alike alike-equal 0 beside-claims beside-hold
+
+no-hanging-ends : map (λ (c : Claim). c .computed) hanging-claims ≡ map (λ (c : Claim). c .stated) hanging-claims
+no-hanging-ends = none-failed alike alike-equal 0 hanging-claims hanging-hold

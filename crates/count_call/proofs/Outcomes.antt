@@ -1,0 +1,41 @@
+-- The outcome of counting all names at once, by worked cases: every refusal once, judged where all that comes later in the order is
+-- wrong too, and done. Names are those of the cases of the paper's calls.
+use mathlib.Core.Path.{_≡_, refl}
+use mathlib.Core.List.{List, [], _∷_, _++_, map}
+use Rattle.paper.specs.Refusal.{Outcome, five}
+use Rattle.paper.proofs.Cases.{Case, failed, none-failed}
+use Rattle.paper.proofs.Outcomes.{same-outcome, outcome-equal, ends, refused, none, joined-two, rubbish, works, clean, calls-open}
+use Rattle.region_depths.specs.Tree.{known}
+use Rattle.region_depths.specs.Census.{countedAt, counts}
+use Rattle.count_call.specs.Tally.{tallyRefusal, tallied}
+
+tallies : List (Case Outcome)
+tallies =
+    record {
+      computed = tallied 1 0 (rubbish 2) (7 ∷ []) (8 ∷ 8 ∷ []) (works 16 17);
+      stated = refused 1 (five (rubbish 2) ++ (7 ∷ []) ∷ (8 ∷ 8 ∷ []) ∷ []) (works 16 17);
+    }
+    ∷ record {
+      computed = tallied 1 1 (rubbish 2) (7 ∷ []) (8 ∷ 8 ∷ []) (works 16 16);
+      stated = refused 4 (five (rubbish 2) ++ (7 ∷ []) ∷ (8 ∷ 8 ∷ []) ∷ []) (works 16 16);
+    }
+    ∷ record {
+      computed = tallied 1 1 (rubbish 2) (7 ∷ 7 ∷ []) (8 ∷ 8 ∷ []) (works 16 17);
+      stated = refused 4 (five (rubbish 2) ++ (7 ∷ 7 ∷ []) ∷ (8 ∷ 8 ∷ []) ∷ []) (works 16 17);
+    }
+    ∷ record {
+      computed = tallied 1 1 (rubbish 2) (7 ∷ 7 ∷ []) (8 ∷ 8 ∷ []) (works 16 16);
+      stated = refused 5 (five (rubbish 2) ++ (7 ∷ 7 ∷ []) ∷ (8 ∷ 8 ∷ []) ∷ []) (clean 16);
+    }
+    ∷ record {
+      computed = tallied 2 1 joined-two (7 ∷ 7 ∷ 7 ∷ []) (8 ∷ 8 ∷ 8 ∷ []) (works 24 24);
+      stated = ends 0 [] (five joined-two ++ (0 ∷ 1 ∷ none ∷ []) ∷ (1 ∷ 0 ∷ none ∷ []) ∷ []) (clean 24);
+    }
+    ∷ []
+
+tallies-hold : failed same-outcome 0 tallies ≡ []
+unfolding calls-open known countedAt counts tallyRefusal tallied tallies
+tallies-hold = refl
+
+tally-cases : map (λ (c : Case Outcome). c .computed) tallies ≡ map (λ (c : Case Outcome). c .stated) tallies
+tally-cases = none-failed same-outcome outcome-equal 0 tallies tallies-hold

@@ -1,0 +1,56 @@
+-- The definitions that worked cases compute with, opened room by room: `unfolding opened` opens them all.
+use Rattle.laws.specs.Table.{table, count, some}
+use Rattle.laws.specs.First.{firstFailed}
+use Rattle.laws.specs.Least.{lower, tie, ties, least}
+use Rattle.laws.specs.Run.{run}
+use Rattle.sheet_size.specs.Size.{widest, within}
+use Rattle.point_darts.specs.Dart.{mark, points, slots, dart, point, direction, beside, far, turned, reversal, stays, line}
+use Rattle.point_darts.specs.Point.{bits, half, has, corner, right, left, parts, present, degree, inline}
+use Rattle.point_rules.specs.Turn.{turn}
+use Rattle.paper.specs.Name.{label, west, north, names, named, cells}
+use Rattle.paper.specs.Level.{side, border, mask, next, plain, last, along, big, bent, tops, anchor, kept2, kept3, among}
+use Rattle.paper.specs.Level.{level, marked}
+use Rattle.paper.specs.Enclosure.{topSide, parent, parents, above, depth, holes}
+use Rattle.paper.specs.Drawing.{drawn, drawing, fresh, recover, recovered, alike, same, isDrawing}
+use Rattle.paper.specs.Joining.{at, on, between, shared, chase, removed, rest1, rest3, low, high, spliced}
+use Rattle.paper.specs.Joining.{smooth, smooths, smoothed, moved, close, closes, closed, joined}
+use Rattle.paper.specs.Refusal.{sized, cleared, outcome, levelTests, levelRefusal, levelTables, levelled}
+use Rattle.paper.specs.Refusal.{five, stated, drawTests, drawRefusal, mapped, sizeTests, givenTests, used, adjoin, nameTests}
+use Rattle.paper.specs.Refusal.{joinRefusal, merged, countRefusal, deepened, holed}
+use Rattle.paper.proofs.Cases.{failed}
+
+laws-open : Unit {0}
+unfolding table count some lower tie ties least run firstFailed
+laws-open = tt
+
+points-open : Unit {0}
+unfolding widest within mark points slots dart point direction beside far turned reversal stays line turn
+points-open = tt
+
+masks-open : Unit {0}
+unfolding bits half has corner right left parts present degree inline
+masks-open = tt
+
+levels-open : Unit {0}
+unfolding label west north names named cells side border mask next plain last along big bent tops anchor kept2 kept3 among
+levels-open = tt
+
+drawings-open : Unit {0}
+unfolding level marked topSide parent parents above depth holes drawn drawing fresh recover recovered alike same isDrawing
+drawings-open = tt
+
+joins-open : Unit {0}
+unfolding at on between shared chase removed rest1 rest3 low high spliced smooth smooths smoothed moved close closes closed joined
+joins-open = tt
+
+refusals-open : Unit {0}
+unfolding sized cleared outcome levelTests levelRefusal levelTables levelled five stated drawTests drawRefusal mapped sizeTests
+refusals-open = tt
+
+names-open : Unit {0}
+unfolding givenTests used adjoin nameTests joinRefusal merged countRefusal deepened holed
+names-open = tt
+
+unfoldable pub opened : Unit {0}
+unfolding laws-open points-open masks-open levels-open drawings-open joins-open refusals-open names-open failed
+opened = tt
