@@ -2,15 +2,15 @@
 --   outcome k vs ts us ws == the outcome with the number k: done, the values vs and the tables us; else the tables ts
 --   work-left k ws  == what such an outcome leaves of the work tables ws
 --   told r ts ws    == the outcome that the answer r tells, with no values
-use mathlib.Core.Path.{_≡_, refl, sym, _∙_}
+use mathlib.Core.Path.{_≡_, refl, sym, ap, _∙_}
 use mathlib.Core.Bool.{cond}
 use mathlib.Core.List.{List, []}
 use mathlib.Core.Logic.{_≢_}
 use Prim.Native.Nat.{ℕ, zero, suc, _≤_, _<_}
 use native.Mathlib.Omega.{arith}
-use lib.Dec.{ltb}
+use lib.Dec.{eqb, ltb}
 use borrow.Author.Tests.{lt-ltb, le-ltb}
-use Rattle.paper.specs.Refusal.{outcome, cleared}
+use Rattle.paper.specs.Refusal.{Outcome, outcome, cleared}
 use Rattle.answer.specs.declared.Answer.{Answer}
 use Rattle.answer.specs.Answer.{numberOf, ended, told}
 
@@ -85,3 +85,42 @@ module _ (r : Answer) (k : ℕ) (e : numberOf r ≡ k) where
       by : (k : ℕ) → xs ≡ work-left k ws → ended k [] ts xs ≡ outcome k [] ts ts ws
       by zero p = rw p
       by (suc k) p = rw p
+
+-- One outcome is one answer, with one list of tables and one of work tables.
+answerOf : ℕ → Answer
+answerOf n =
+    cond (eqb n 0) Answer.Done
+    (cond (eqb n 1) Answer.Size
+    (cond (eqb n 2) Answer.Level
+    (cond (eqb n 3) Answer.Sheet
+    (cond (eqb n 4) Answer.Tables
+    (cond (eqb n 5) Answer.Drawing
+    (cond (eqb n 6) Answer.Outside
+    (cond (eqb n 7) Answer.Equal
+    (cond (eqb n 8) Answer.Name
+    Answer.Apart))))))))
+
+answer-of : (r : Answer) → answerOf (numberOf r) ≡ r
+unfolding answerOf numberOf
+answer-of Answer.Done = refl
+answer-of Answer.Size = refl
+answer-of Answer.Level = refl
+answer-of Answer.Sheet = refl
+answer-of Answer.Tables = refl
+answer-of Answer.Drawing = refl
+answer-of Answer.Outside = refl
+answer-of Answer.Equal = refl
+answer-of Answer.Name = refl
+answer-of Answer.Apart = refl
+
+pub number-one : (r q : Answer) → numberOf r ≡ numberOf q → r ≡ q
+number-one r q e = sym (answer-of r) ∙ ap answerOf e ∙ answer-of q
+
+pub told-one : (r q : Answer) (ts us ws xs : List (List ℕ)) → told r ts ws ≡ told q us xs
+    → (r ≡ q) × (ts ≡ us) × (ws ≡ xs)
+unfolding told
+told-one r q ts us ws xs e = (
+  number-one r q (ap (λ (o : Outcome). o .number) e),
+  ap (λ (o : Outcome). o .tables) e,
+  ap (λ (o : Outcome). o .work) e,
+)

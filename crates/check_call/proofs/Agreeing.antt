@@ -9,17 +9,18 @@ use Prim.Native.Nat.{ℕ, _+_, _*_, _≤_}
 use native.Mathlib.Omega.{arith}
 use lib.ListN.{take}
 use borrow.Author.Tests.{not-true, not-false}
+use Rattle.laws.specs.Equal.{equal}
 use Rattle.laws.specs.Table.{table}
+use Rattle.laws.proofs.Equal.{equal-iff}
 use Rattle.laws.proofs.Test.{and-left, and-right}
 use Rattle.sheet_size.specs.Size.{within}
 use Rattle.point_darts.specs.Dart.{points, slots}
 use Rattle.paper.specs.Name.{names}
 use Rattle.paper.specs.Level.{side, tops}
 use Rattle.paper.specs.Enclosure.{parent}
-use Rattle.paper.specs.Drawing.{Tables, drawn, drawing, recovered, alike, same, isDrawing}
+use Rattle.paper.specs.Drawing.{Tables, drawn, drawing, recovered, same, isDrawing}
 use Rattle.paper.specs.Joining.{at, on}
 use Rattle.paper_laws.proofs.Marks.{within-fits, cells-slots, names-side-small}
-use Rattle.paper.proofs.Alike.{alike-iff}
 use Rattle.region_names.specs.Frame.{framed}
 use Rattle.level_lines.specs.Mask.{masked}
 use Rattle.level_lines.specs.Line.{nexts}
@@ -38,7 +39,7 @@ names-part w h = omega (arith, cells-slots w h)
 module _ (w h : ℕ) (x s : List ℕ) where
   pub lines-is-drawing : (t e r m y u : List ℕ) (b : Bool) → t ≡ e → e ≡ recovered w h s
       → take (surround w h) r ≡ framed w h (names w h t) → Lined w h (take (surround w h) r) m y u
-      → b ≡ (alike x y && alike s u) → (b ≡ linesAgree w h x s) × (take (points w h) m ≡ masksOf w h s)
+      → b ≡ (equal x y && equal s u) → (b ≡ linesAgree w h x s) × (take (points w h) m ≡ masksOf w h s)
   unfolding linesAgree masksOf roundOf
   lines-is-drawing t e r m y u b p q f l g =
       let k : take (surround w h) r ≡ framed w h (names w h (recovered w h s)) =
@@ -57,19 +58,19 @@ module _ (w h : ℕ) (x s y o p m a c v u : List ℕ) (g : Kept w h s m a c) (k 
   kept-points : take (points w h) c ≡ keeps w h m top
   kept-points = g .points ∙ ap (keeps w h m) (g .tops)
 
-  pub curves-no : (t : Bool) → t ≡ (alike y v && alike o u) → not t ≡ true → false ≡ curvesAgree w h (tables x s y o p) m
+  pub curves-no : (t : Bool) → t ≡ (equal y v && equal o u) → not t ≡ true → false ≡ curvesAgree w h (tables x s y o p) m
   unfolding curvesAgree
   curves-no t e n =
-      let q : t ≡ (alike y (alongNext w h x (keeps w h m top)) && alike o (alongOther w h x (keeps w h m top))) =
+      let q : t ≡ (equal y (alongNext w h x (keeps w h m top)) && equal o (alongOther w h x (keeps w h m top))) =
       e ∙ rw (k .next, k .other, kept-points) in
       rw (← q, not-true t n)
 
-  pub curves-yes : (t : Bool) → t ≡ (alike y v && alike o u) → not t ≡ false → (r : Bool) (e l : List ℕ) → e ≡ l
-      → l ≡ table (w * h + 1) (parent w (on s) (at s) (take (points w h) a)) → r ≡ alike p e
+  pub curves-yes : (t : Bool) → t ≡ (equal y v && equal o u) → not t ≡ false → (r : Bool) (e l : List ℕ) → e ≡ l
+      → l ≡ table (w * h + 1) (parent w (on s) (at s) (take (points w h) a)) → r ≡ equal p e
       → r ≡ curvesAgree w h (tables x s y o p) m
   unfolding curvesAgree
   curves-yes t e n r f l i j z =
-      let q : t ≡ (alike y (alongNext w h x (keeps w h m top)) && alike o (alongOther w h x (keeps w h m top))) =
+      let q : t ≡ (equal y (alongNext w h x (keeps w h m top)) && equal o (alongOther w h x (keeps w h m top))) =
       e ∙ rw (k .next, k .other, kept-points) in
       rw (← q, not-false t n) (z ∙ rw (i, j, g .tops))
 
@@ -79,7 +80,7 @@ module _ (w h : ℕ) (t : Tables) (e : within w h ≡ true) where
   n = names w h (recovered w h (t .side1))
 
   lines-drawn : linesAgree w h (t .next1) (t .side1)
-      ≡ (alike (t .next1) (drawn w h n .next1) && alike (t .side1) (drawn w h n .side1))
+      ≡ (equal (t .next1) (drawn w h n .next1) && equal (t .side1) (drawn w h n .side1))
   unfolding linesAgree masksOf roundOf
   lines-drawn = rw (line-next w h n, line-side w h n)
 
@@ -88,18 +89,18 @@ module _ (w h : ℕ) (t : Tables) (e : within w h ≡ true) where
   is-drawing-no b f g = let z = sym lines-drawn ∙ sym f ∙ not-true b g in rw z
 
   module _ (b : Bool) (f : b ≡ linesAgree w h (t .next1) (t .side1)) (g : not b ≡ false) where
-    agreed : (alike (t .next1) (drawn w h n .next1) && alike (t .side1) (drawn w h n .side1)) ≡ true
+    agreed : (equal (t .next1) (drawn w h n .next1) && equal (t .side1) (drawn w h n .side1)) ≡ true
     agreed = sym lines-drawn ∙ sym f ∙ not-false b g
 
     next-is : t .next1 ≡ drawn w h n .next1
-    next-is = alike-iff (t .next1) (drawn w h n .next1) .0 (and-left _ (alike (t .side1) (drawn w h n .side1)) agreed)
+    next-is = equal-iff (t .next1) (drawn w h n .next1) .0 (and-left _ (equal (t .side1) (drawn w h n .side1)) agreed)
 
     side-is : t .side1 ≡ drawn w h n .side1
-    side-is = alike-iff (t .side1) (drawn w h n .side1) .0 (and-right (alike (t .next1) (drawn w h n .next1)) _ agreed)
+    side-is = equal-iff (t .side1) (drawn w h n .side1) .0 (and-right (equal (t .next1) (drawn w h n .next1)) _ agreed)
 
     curves-drawn : curvesAgree w h t (masksOf w h (t .side1))
-        ≡ (alike (t .next3) (drawn w h n .next3) && alike (t .other3) (drawn w h n .other3)
-        && alike (t .parent) (drawn w h n .parent))
+        ≡ (equal (t .next3) (drawn w h n .next3) && equal (t .other3) (drawn w h n .other3)
+        && equal (t .parent) (drawn w h n .parent))
     unfolding curvesAgree masksOf roundOf
     curves-drawn =
         let room = within-fits w h e in
@@ -113,7 +114,7 @@ module _ (w h : ℕ) (t : Tables) (e : within w h ≡ true) where
         ap (λ v. alongOther w h v k) next-is ∙ curve-other w h n room small k z in
         let q : table (w * h + 1) (parent w (on (t .side1)) (at (t .side1)) (tops w h (on (t .side1)))) ≡ drawn w h n .parent =
         ap (λ v. table (w * h + 1) (parent w (on v) (at v) (tops w h (on v)))) side-is ∙ parents-whole w h n room small in
-        λ l. alike (t .next3) (i l) && alike (t .other3) (j l) && alike (t .parent) (q l)
+        λ l. equal (t .next3) (i l) && equal (t .other3) (j l) && equal (t .parent) (q l)
 
     pub is-drawing-yes : (r : Bool) (m : List ℕ) → m ≡ masksOf w h (t .side1) → r ≡ curvesAgree w h t m → r ≡ isDrawing w h t
     unfolding isDrawing same drawing

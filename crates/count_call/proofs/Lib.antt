@@ -1,4 +1,4 @@
 mod Accepted
 mod Counting
-mod Outcomes
+mod Worked
 mod Told

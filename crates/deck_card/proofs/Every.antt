@@ -12,9 +12,10 @@ use lib.Dec.{eqb, leb}
 use lib.ListN.{length, getD, take, drop, replicate}
 use lib.Seq.{slice, slice-cons, slice-empty}
 use borrow.Author.Tests.{eqb-true, eq-eqb, ne-eqb, le-leb, lt-leb, leb-true}
+use Rattle.laws.specs.Equal.{equal}
 use Rattle.laws.proofs.Test.{and-left, and-right}
 use Rattle.laws.specs.Every.{every}
-use Rattle.deck_card.specs.Card.{blank, lowest, highest, equal, fromTo, visible}
+use Rattle.deck_card.specs.Card.{blank, lowest, highest, fromTo, visible}
 
 -- A test of a range.
 pub from-to-below : (a b n : ℕ) → n < a → fromTo a b n ≡ false
@@ -45,22 +46,6 @@ module _ (l m : List ℕ) (e : ℕ) (h : e ≤ length l) (k : e ≤ length m) wh
       → equal (slice (i + 1) e l) (slice (i + 1) e m) ≡ equal (slice i e l) (slice i e m)
   unfolding equal
   equal-go i b q = rw (slice-cons i e l 0 b h, slice-cons i e m 0 b k, eq-eqb _ _ q, add-one)
-
--- Lists that are the same, and lists that are equal.
-pub equal-refl : (l : List ℕ) → equal l l ≡ true
-unfolding equal
-equal-refl [] = refl
-equal-refl (x ∷ l) = rw (eq-eqb x x refl) (equal-refl l)
-
-pub equal-true : (l m : List ℕ) → equal l m ≡ true → l ≡ m
-unfolding equal
-equal-true [] [] e = refl
-equal-true [] (y ∷ m) e = absurd (false≢true e)
-equal-true (x ∷ l) [] e = absurd (false≢true e)
-equal-true (x ∷ l) (y ∷ m) e =
-    let p = eqb-true x y (and-left (eqb x y) (equal l m) e) in
-    let q = equal-true l m (and-right (eqb x y) (equal l m) e) in
-    λ i. p i ∷ q i
 
 -- nothing is left to compare
 pub equal-end : (l m : List ℕ) (e i : ℕ) → i ≡ e → equal (slice i e l) (slice i e m) ≡ true

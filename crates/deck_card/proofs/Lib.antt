@@ -5,3 +5,4 @@ pub mod Outcomes
 pub mod Parts
 pub mod Sizes
 pub mod Table
+mod Worked

@@ -3,7 +3,6 @@
 --   places          == how many columns after those hold the digits of its number: columns 73 to 80
 --   long            == the length of a card, its line feed included
 --   blank, feed     == the bytes of a blank and of a line feed
---   equal a b       == the lists a and b are equal
 --   fromTo a b n    == n is from a to b
 --   visible         == may stand in a cell: from the lowest such byte, 33, to the highest, 126
 --   digit n k       == the byte of the decimal digit of n that has k digits after it
@@ -34,12 +33,6 @@ blank = 32
 
 unfoldable pub feed : ℕ
 feed = 10
-
-unfoldable pub equal : List ℕ → List ℕ → Bool
-equal [] [] = true
-equal [] (y ∷ m) = false
-equal (x ∷ l) [] = false
-equal (x ∷ l) (y ∷ m) = eqb x y && equal l m
 
 unfoldable pub fromTo : ℕ → ℕ → ℕ → Bool
 fromTo a b n = leb a n && leb n b

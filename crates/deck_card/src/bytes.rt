@@ -6,8 +6,9 @@ ghost use mathlib.Core.Path.{_≡_};
 ghost use Prim.Native.Nat.{ℕ, _≤_, _<_};
 ghost use lib.ListN.{length, getD};
 ghost use lib.Seq.{slice};
+ghost use Rattle.laws.specs.Equal.{equal};
 ghost use Rattle.laws.specs.Every.{every};
-ghost use Rattle.deck_card.specs.Card.{columns, long, equal, fromTo, digit, card};
+ghost use Rattle.deck_card.specs.Card.{columns, long, fromTo, digit, card};
 
 // The byte of the decimal digit of a number that has so many digits after it.
 pub(crate) fn digit(number: u16, after: usize) -> u8

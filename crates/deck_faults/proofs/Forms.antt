@@ -9,10 +9,11 @@ use native.Mathlib.Omega.{arith}
 use lib.Dec.{eqb}
 use lib.ListN.{length, take}
 use lib.Seq.{slice}
+use Rattle.laws.specs.Equal.{equal}
 use Rattle.laws.proofs.Test.{and-left}
 use Rattle.sheet_size.specs.Size.{within}
 use Rattle.laws.specs.Every.{every}
-use Rattle.deck_card.specs.Card.{columns, places, blank, equal, fromTo, visible, card, whole}
+use Rattle.deck_card.specs.Card.{columns, places, blank, fromTo, visible, card, whole}
 use Rattle.deck_card.specs.Layout.{heading}
 use Rattle.deck_card.proofs.Cards.{card-columns, card-number}
 use Rattle.deck_card.proofs.Headings.{heading-fits}

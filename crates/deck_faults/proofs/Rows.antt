@@ -9,16 +9,18 @@ use lib.Dec.{lit<}
 use lib.ListN.{length, getD, take, drop, replicate, length-drop, take-append-drop, drop-of-length-le}
 use lib.Seq.{slice, take-at, drop-at, length-take-le, drop-cons, take-take}
 use borrow.Author.Tests.{ne-eqb}
+use Rattle.laws.specs.Equal.{equal}
+use Rattle.laws.proofs.Equal.{equal-true, equal-own}
 use Rattle.laws.proofs.Test.{and-right}
 use Rattle.sheet_size.specs.Size.{within}
 use Rattle.sheet_size.proofs.Limit.{within-limits}
 use Rattle.laws.specs.Every.{every}
-use Rattle.deck_card.specs.Card.{columns, places, long, blank, feed, equal, visible, digit, digits, padded, card}
+use Rattle.deck_card.specs.Card.{columns, places, long, blank, feed, visible, digit, digits, padded, card}
 use Rattle.deck_card.specs.Card.{whole}
 use Rattle.deck_card.proofs.Parts.{is-whole, whole-is}
 use Rattle.deck_card.specs.Layout.{heading}
 use Rattle.deck_card.proofs.Cards.{length-card, card-content, card-feed, card-columns, card-number}
-use Rattle.deck_card.proofs.Every.{equal-refl, equal-true, every-blank, every-blanks}
+use Rattle.deck_card.proofs.Every.{every-blank, every-blanks}
 use Rattle.deck_card.proofs.Headings.{length-heading, heading-fits}
 use Rattle.deck_faults.specs.Fault.{bears, form, value, width, height, headed, header, row}
 use Rattle.deck_faults.proofs.Forms.{header-is, header-form, header-headed, row-is, row-none, form-none}
@@ -37,7 +39,7 @@ module _ (k : ℕ) (c : List ℕ) (fits : length c ≤ columns) where
   unfolding form bears long
   card-formed =
       let n : length (card k c) ≡ 0 → ⊥ = λ e. omega (arith, length-card k c fits) in
-      rw (ne-eqb (length (card k c)) 0 n, card-whole, card-number k c fits, equal-refl)
+      rw (ne-eqb (length (card k c)) 0 n, card-whole, card-number k c fits, equal-own)
 
   -- its cells, and the blanks after them
   pub card-cells : take (length c) (card k c) ≡ c
@@ -111,7 +113,7 @@ module _ (w h : ℕ) (size : within w h ≡ true) where
   heading-header =
       let c = heading w h in
       let formed = header-is (card 1 c) (card-formed 1 c (heading-fits w h)) in
-      rw (formed, heading-width, heading-height, size, card-columns 1 c (heading-fits w h), equal-refl)
+      rw (formed, heading-width, heading-height, size, card-columns 1 c (heading-fits w h), equal-own)
 
 -- a header that is not refused
 pub header-card : (c : List ℕ) → header c ≡ 0 → c ≡ card 1 (heading (width c) (height c))

@@ -16,9 +16,10 @@ use mathlib.Core.List.{List}
 use Prim.Native.Nat.{ℕ, zero, suc, _+_, _*_, _-_}
 use lib.Dec.{eqb}
 use lib.ListN.{length, getD, take, drop}
+use Rattle.laws.specs.Equal.{equal}
 use Rattle.sheet_size.specs.Size.{within}
 use Rattle.laws.specs.Every.{every}
-use Rattle.deck_card.specs.Card.{columns, places, blank, equal, fromTo, visible, digits, padded, whole}
+use Rattle.deck_card.specs.Card.{columns, places, blank, fromTo, visible, digits, padded, whole}
 use Rattle.deck_card.specs.Layout.{heading}
 
 unfoldable pub orElse : ℕ → ℕ → ℕ

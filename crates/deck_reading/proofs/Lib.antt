@@ -3,3 +3,4 @@ mod Cleared
 pub mod Filling
 pub mod One
 mod Outcomes
+mod Worked

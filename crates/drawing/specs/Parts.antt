@@ -7,12 +7,13 @@ use mathlib.Core.Bool.{Bool, _&&_}
 use mathlib.Core.List.{List}
 use Prim.Native.Nat.{ℕ, _+_, _*_}
 use lib.ListN.{take}
+use Rattle.laws.specs.Equal.{equal}
 use Rattle.laws.specs.Table.{table}
 use Rattle.point_darts.specs.Dart.{points}
 use Rattle.paper.specs.Name.{names}
 use Rattle.paper.specs.Level.{tops}
 use Rattle.paper.specs.Enclosure.{parent}
-use Rattle.paper.specs.Drawing.{Tables, recovered, alike}
+use Rattle.paper.specs.Drawing.{Tables, recovered}
 use Rattle.paper.specs.Joining.{at, on}
 use Rattle.region_names.specs.Frame.{framed}
 use Rattle.level_lines.specs.Mask.{masked}
@@ -46,11 +47,11 @@ unfoldable pub masksOf : ℕ → ℕ → List ℕ → List ℕ
 masksOf w h s = masked w h (roundOf w h s)
 
 unfoldable pub linesAgree : ℕ → ℕ → List ℕ → List ℕ → Bool
-linesAgree w h x s = alike x (nexts w h (masksOf w h s)) && alike s (sides w h (roundOf w h s) (masksOf w h s))
+linesAgree w h x s = equal x (nexts w h (masksOf w h s)) && equal s (sides w h (roundOf w h s) (masksOf w h s))
 
 unfoldable pub curvesAgree : ℕ → ℕ → Tables → List ℕ → Bool
 curvesAgree w h t m =
     let p = tops w h (on (t .side1)) in
     let k = keeps w h m p in
-    alike (t .next3) (alongNext w h (t .next1) k) && alike (t .other3) (alongOther w h (t .next1) k)
-    && alike (t .parent) (table (w * h + 1) (parent w (on (t .side1)) (at (t .side1)) p))
+    equal (t .next3) (alongNext w h (t .next1) k) && equal (t .other3) (alongOther w h (t .next1) k)
+    && equal (t .parent) (table (w * h + 1) (parent w (on (t .side1)) (at (t .side1)) p))

@@ -1,9 +1,11 @@
 pub mod Alike
 pub mod Anchor
+pub mod Cases
 pub mod Chart
 pub mod Column
 pub mod Count
 pub mod Curve
+pub mod Equal
 pub mod Every
 pub mod Exchange
 pub mod First

@@ -1,3 +1,4 @@
+pub mod Equal
 pub mod Every
 pub mod First
 pub mod Least

@@ -1,5 +1,3 @@
-pub mod Alike
-pub mod Cases
 mod Marked
 pub mod Opened
-pub mod Outcomes
+pub mod Worked

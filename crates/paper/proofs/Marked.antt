@@ -12,17 +12,18 @@ use mathlib.Core.List.{List, [], _∷_, _++_, map}
 use Prim.Native.Nat.{ℕ, zero, suc}
 use lib.Dec.{eqb, ltb}
 use lib.ListN.{set}
+use Rattle.laws.specs.Equal.{equal}
 use Rattle.laws.specs.Table.{number, count}
+use Rattle.laws.proofs.Cases.{Case, failed, none-failed}
+use Rattle.laws.proofs.Equal.{equal-true}
 use Rattle.point_darts.specs.Dart.{mark, points, slots}
 use Rattle.point_darts.specs.Point.{degree}
 use Rattle.paper.specs.Name.{names}
 use Rattle.paper.specs.Level.{mask, level, marked}
 use Rattle.paper.specs.Enclosure.{depth, holes}
-use Rattle.paper.specs.Drawing.{Tables, drawing, fresh, alike, isDrawing}
+use Rattle.paper.specs.Drawing.{Tables, drawing, fresh, isDrawing}
 use Rattle.paper.specs.Joining.{Links, at, on, rest1, rest3, joined}
 use Rattle.paper.specs.Refusal.{merged}
-use Rattle.paper.proofs.Alike.{alike-equal}
-use Rattle.paper.proofs.Cases.{Case, failed, none-failed}
 use Rattle.paper.proofs.Opened.{opened}
 
 abbrev Claim : Type 0
@@ -207,23 +208,23 @@ cases-open : Unit {0}
 unfolding opened sheets-open refusal accepted spoilt darts picked ones read claims beside-claims joins hanging hanging-ends hanging-claims
 cases-open = tt
 
-claims-hold : failed alike 0 claims ≡ []
+claims-hold : failed equal 0 claims ≡ []
 unfolding cases-open
 claims-hold = refl
 
-beside-hold : failed alike 0 beside-claims ≡ []
+beside-hold : failed equal 0 beside-claims ≡ []
 unfolding cases-open
 beside-hold = refl
 
-hanging-hold : failed alike 0 hanging-claims ≡ []
+hanging-hold : failed equal 0 hanging-claims ≡ []
 unfolding cases-open
 hanging-hold = refl
 
 marked-cases : map (λ (c : Claim). c .computed) claims ≡ map (λ (c : Claim). c .stated) claims
-marked-cases = none-failed alike alike-equal 0 claims claims-hold
+marked-cases = none-failed equal equal-true 0 claims claims-hold
 
 cases-beside : map (λ (c : Claim). c .computed) beside-claims ≡ map (λ (c : Claim). c .stated) beside-claims
-cases-beside = none-failed alike alike-equal 0 beside-claims beside-hold
+cases-beside = none-failed equal equal-true 0 beside-claims beside-hold
 
 no-hanging-ends : map (λ (c : Claim). c .computed) hanging-claims ≡ map (λ (c : Claim). c .stated) hanging-claims
-no-hanging-ends = none-failed alike alike-equal 0 hanging-claims hanging-hold
+no-hanging-ends = none-failed equal equal-true 0 hanging-claims hanging-hold

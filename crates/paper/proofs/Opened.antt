@@ -1,4 +1,5 @@
 -- The definitions that worked cases compute with, opened room by room: `unfolding opened` opens them all.
+use Rattle.laws.specs.Equal.{equal}
 use Rattle.laws.specs.Table.{table, count, some}
 use Rattle.laws.specs.First.{firstFailed}
 use Rattle.laws.specs.Least.{lower, tie, ties, least}
@@ -11,13 +12,13 @@ use Rattle.paper.specs.Name.{label, west, north, names, named, cells}
 use Rattle.paper.specs.Level.{side, border, mask, next, plain, last, along, big, bent, tops, anchor, kept2, kept3, among}
 use Rattle.paper.specs.Level.{level, marked}
 use Rattle.paper.specs.Enclosure.{topSide, parent, parents, above, depth, holes}
-use Rattle.paper.specs.Drawing.{drawn, drawing, fresh, recover, recovered, alike, same, isDrawing}
+use Rattle.paper.specs.Drawing.{drawn, drawing, fresh, recover, recovered, same, isDrawing}
 use Rattle.paper.specs.Joining.{at, on, between, shared, chase, removed, rest1, rest3, low, high, spliced}
 use Rattle.paper.specs.Joining.{smooth, smooths, smoothed, moved, close, closes, closed, joined}
 use Rattle.paper.specs.Refusal.{sized, cleared, outcome, levelTests, levelRefusal, levelTables, levelled}
 use Rattle.paper.specs.Refusal.{five, stated, drawTests, drawRefusal, mapped, sizeTests, givenTests, used, adjoin, nameTests}
 use Rattle.paper.specs.Refusal.{joinRefusal, merged, countRefusal, deepened, holed}
-use Rattle.paper.proofs.Cases.{failed}
+use Rattle.laws.proofs.Cases.{failed}
 
 laws-open : Unit {0}
 unfolding table count some lower tie ties least run firstFailed
@@ -36,7 +37,7 @@ unfolding label west north names named cells side border mask next plain last al
 levels-open = tt
 
 drawings-open : Unit {0}
-unfolding level marked topSide parent parents above depth holes drawn drawing fresh recover recovered alike same isDrawing
+unfolding level marked topSide parent parents above depth holes drawn drawing fresh recover recovered equal same isDrawing
 drawings-open = tt
 
 joins-open : Unit {0}

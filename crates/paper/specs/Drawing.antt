@@ -11,6 +11,7 @@ use mathlib.Core.List.{List, [], _∷_, map}
 use Prim.Native.Nat.{ℕ, zero, suc, _+_, _*_, _/_}
 use lib.Dec.{eqb}
 use lib.ListN.{getD, length}
+use Rattle.laws.specs.Equal.{equal}
 use Rattle.laws.specs.Least.{lower}
 use Rattle.point_darts.specs.Dart.{mark, dart}
 use Rattle.paper.specs.Name.{names}
@@ -58,17 +59,11 @@ recover w s v i (suc n) =
 unfoldable pub recovered : ℕ → ℕ → List ℕ → List ℕ
 recovered w h s = recover w s mark 0 (w * h)
 
-unfoldable pub alike : List ℕ → List ℕ → Bool
-alike [] [] = true
-alike [] (y ∷ ys) = false
-alike (x ∷ xs) [] = false
-alike (x ∷ xs) (y ∷ ys) = eqb x y && alike xs ys
-
 unfoldable pub same : Tables → Tables → Bool
 same t u =
-    alike (t .next1) (u .next1) && alike (t .side1) (u .side1) && alike (t .next3) (u .next3)
-    && alike (t .other3) (u .other3)
-    && alike (t .parent) (u .parent)
+    equal (t .next1) (u .next1) && equal (t .side1) (u .side1) && equal (t .next3) (u .next3)
+    && equal (t .other3) (u .other3)
+    && equal (t .parent) (u .parent)
 
 unfoldable pub isDrawing : ℕ → ℕ → Tables → Bool
 isDrawing w h t = same t (drawing w h (recovered w h (t .side1)))

@@ -6,7 +6,7 @@
 --   smoothed ..     == step 3: the links without the points that have two darts of two different edges
 --   closed ..       == step 4: each closed curve's darts moved to its anchor
 --   joined w h t a b == the five tables after steps 1, 3, 4 and 5
--- Step 2 removed hanging ends; step 1 leaves none (`no-hanging-line`, `no-hanging-curve` in `theory`), so request T-07 took it out.
+-- Step 2 removed hanging ends; step 1 leaves none (`no-hanging-line`, `no-hanging-curve` in `paper_laws`), so request T-07 took it out.
 use mathlib.Core.Bool.{Bool, true, false, cond, not, _&&_, _||_}
 use mathlib.Core.List.{List}
 use Prim.Native.Nat.{ℕ, zero, suc}

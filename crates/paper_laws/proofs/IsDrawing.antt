@@ -15,16 +15,17 @@ use native.Mathlib.Omega.{arith}
 use lib.Dec.{eqb}
 use lib.ListN.{length, getD}
 use borrow.Author.Tests.{eq-eqb, ne-eqb}
+use Rattle.laws.specs.Equal.{equal}
 use Rattle.laws.specs.Table.{listed, table}
+use Rattle.laws.proofs.Equal.{equal-own, equal-iff}
 use Rattle.laws.proofs.Table.{table-entries}
 use Rattle.laws.proofs.Test.{and-true, and-left, and-right}
 use Rattle.point_darts.specs.Dart.{mark, slots, dart}
 use Rattle.point_darts.proofs.Darts.{place}
 use Rattle.paper.specs.Name.{names, named}
 use Rattle.paper.specs.Level.{side, border, plain, level, marked}
-use Rattle.paper.specs.Drawing.{Tables, Drawn, drawn, drawing, recover, recovered, alike, same, isDrawing}
+use Rattle.paper.specs.Drawing.{Tables, Drawn, drawn, drawing, recover, recovered, same, isDrawing}
 use Rattle.paper.specs.Joining.{at}
-use Rattle.paper.proofs.Alike.{alike-own, alike-iff}
 use Rattle.paper_laws.proofs.Cells.{named-west}
 use Rattle.paper_laws.proofs.Name.{cell-below, length-names, name-range, names-names}
 use Rattle.paper_laws.proofs.First.{every-cell, named-cell}
@@ -133,7 +134,7 @@ module _ (w h : ℕ) (s : List ℕ) where
   unfolding drawing
   same-drawing = ap (drawn w h) (names-names w h s)
 
--- Tables are the same where they are equal: each of the five is alike.
+-- Tables are the same where they are equal: each of the five is equal.
 all-five : (a b c d e : Bool) → (a && b && c && d && e) ≡ true
     → (a ≡ true) × (b ≡ true) × (c ≡ true) × (d ≡ true) × (e ≡ true)
 all-five a b c d e p =
@@ -146,21 +147,21 @@ all-five a b c d e p =
 same-equal : (t u : Tables) → same t u ≡ true → t ≡ u
 unfolding same
 same-equal t u e =
-    let p = all-five (alike (t .next1) (u .next1)) (alike (t .side1) (u .side1)) (alike (t .next3) (u .next3))
-    (alike (t .other3) (u .other3)) (alike (t .parent) (u .parent)) e in
+    let p = all-five (equal (t .next1) (u .next1)) (equal (t .side1) (u .side1)) (equal (t .next3) (u .next3))
+    (equal (t .other3) (u .other3)) (equal (t .parent) (u .parent)) e in
     λ i. record {
-      next1 = alike-iff (t .next1) (u .next1) .0 (p .0) i;
-      side1 = alike-iff (t .side1) (u .side1) .0 (p .1) i;
-      next3 = alike-iff (t .next3) (u .next3) .0 (p .2) i;
-      other3 = alike-iff (t .other3) (u .other3) .0 (p .3) i;
-      parent = alike-iff (t .parent) (u .parent) .0 (p .4) i;
+      next1 = equal-iff (t .next1) (u .next1) .0 (p .0) i;
+      side1 = equal-iff (t .side1) (u .side1) .0 (p .1) i;
+      next3 = equal-iff (t .next3) (u .next3) .0 (p .2) i;
+      other3 = equal-iff (t .other3) (u .other3) .0 (p .3) i;
+      parent = equal-iff (t .parent) (u .parent) .0 (p .4) i;
     }
 
 same-own : (t : Tables) → same t t ≡ true
 unfolding same
 same-own t =
-    and-true (and-true (and-true (and-true (alike-own (t .next1)) (alike-own (t .side1))) (alike-own (t .next3)))
-    (alike-own (t .other3))) (alike-own (t .parent))
+    and-true (and-true (and-true (and-true (equal-own (t .next1)) (equal-own (t .side1))) (equal-own (t .next3)))
+    (equal-own (t .other3))) (equal-own (t .parent))
 
 pub same-iff : (t u : Tables) → (same t u ≡ true) ↔ (t ≡ u)
 same-iff t u = (same-equal t u, λ e. rw (← e) (same-own t))

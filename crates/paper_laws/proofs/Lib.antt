@@ -28,5 +28,4 @@ pub mod Sheet
 pub mod Smoothed
 pub mod Straight
 pub mod Theorem
-pub mod Unique
 pub mod Untouched

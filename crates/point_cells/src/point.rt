@@ -3,7 +3,7 @@ ghost use mathlib.Core.Bool.{not};
 ghost use Prim.Native.Nat.{_*_, _≤_, _<_};
 ghost use lib.Dec.{eqb};
 ghost use Rattle.laws.specs.Table.{number};
-ghost use Rattle.point_darts.specs.Point.{corner, right, left, present};
+ghost use Rattle.point_darts.specs.Point.{corner, right, present};
 
 // The cell in a row and a column of the four.
 fn corner(cells: [[u16; 2]; 2], row: usize, column: usize) -> u16
@@ -44,19 +44,6 @@ pub fn right(cells: [[u16; 2]; 2], direction: u16) -> u16
         1 => corner(cells, 1, 0),
         2 => corner(cells, 0, 0),
         3 => corner(cells, 0, 1),
-        _ => 0,
-    }
-}
-
-// The cell on the left hand of the line that leaves a point in a direction; 0 for no direction.
-pub fn left(cells: [[u16; 2]; 2], direction: u16) -> u16
-    ensures { λ r. ⌜ r ≡ left cells direction ⌝ }
-{
-    match direction {
-        0 => corner(cells, 0, 1),
-        1 => corner(cells, 1, 1),
-        2 => corner(cells, 1, 0),
-        3 => corner(cells, 0, 0),
         _ => 0,
     }
 }

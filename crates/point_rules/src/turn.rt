@@ -1,17 +1,15 @@
 ghost use mathlib.Core.Path.{_≡_};
-ghost use Rattle.point_rules.specs.Turn.{turnOf, becomesOf, pointTable, kinding};
+ghost use Rattle.point_rules.specs.Turn.{turnOf, pointTable, kinding};
 
 // No direction: what next_line answers where no line is present.
 pub const NONE: u16 = 4;
 
-// What the point table says of two lines in line, of a corner, of three or four lines, and of what cannot be.
+// What the point table says of two lines in line, of a corner, and of three or four lines.
 pub const IN_LINE: u16 = 1;
 
 pub const CORNER: u16 = 2;
 
 pub const LARGE: u16 = 3;
-
-pub const IMPOSSIBLE: u16 = 4;
 
 // The direction of the next line, at 4 times the mask of present lines plus the heading.
 const TURNS: [u16; 64] = [
@@ -368,20 +366,6 @@ pub fn point_table() -> [u16; 256]
     ensures { λ r. ⌜ r ≡ pointTable ⌝ }
 {
     POINT_TABLE
-}
-
-// What a point with the lines present becomes when the lines taken go; 4 also where a number is no mask.
-pub fn becomes(present: u16, taken: u16) -> u16
-    ensures { λ r. ⌜ r ≡ becomesOf present taken ⌝ }
-{
-    if 15 < present {
-        return IMPOSSIBLE;
-    }
-    if 15 < taken {
-        return IMPOSSIBLE;
-    }
-    let table = point_table();
-    table[(16 * present + taken) as usize]
 }
 
 // What the point table says of each mask where no line is taken. It is written out, since a table is built anew where it

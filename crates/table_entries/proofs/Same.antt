@@ -10,8 +10,8 @@ use native.Mathlib.Omega.{arith}
 use native.Mathlib.Decide.{ℕ-discrete}
 use lib.ListN.{length, getD}
 use lib.Seq.{ext-getD}
-use Rattle.paper.specs.Drawing.{alike}
-use Rattle.paper.proofs.Alike.{alike-iff}
+use Rattle.laws.specs.Equal.{equal}
+use Rattle.laws.proofs.Equal.{equal-iff}
 
 pub record Agreed (i : ℕ) (t u : List ℕ) : Type 0 where
   pub entry : (k : ℕ) → k < i → getD t k 0 ≡ getD u k 0
@@ -20,18 +20,18 @@ module _ (t u : List ℕ) where
   pub agreed-none : Agreed 0 t u
   agreed-none = record { entry = λ k b. absurd (not-suc-le-zero b) }
 
-  -- tables that differ in anything are not alike
-  unlike : t ≢ u → false ≡ alike t u
-  unlike n = go (alike t u) refl
+  -- tables that differ in anything are not equal
+  unlike : t ≢ u → false ≡ equal t u
+  unlike n = go (equal t u) refl
     where
-      go : (r : Bool) → alike t u ≡ r → false ≡ r
-      go true e = absurd (n (alike-iff t u .0 e))
+      go : (r : Bool) → equal t u ≡ r → false ≡ r
+      go true e = absurd (n (equal-iff t u .0 e))
       go false e = refl
 
-  pub same-short : length u ≢ length t → false ≡ alike t u
+  pub same-short : length u ≢ length t → false ≡ equal t u
   same-short n = unlike (λ e. n (ap length (sym e)))
 
-  pub same-differs : (i : ℕ) → getD t i 0 ≢ getD u i 0 → false ≡ alike t u
+  pub same-differs : (i : ℕ) → getD t i 0 ≢ getD u i 0 → false ≡ equal t u
   same-differs i n = unlike (λ e. n (ap (λ l. getD l i 0) e))
 
   module _ (i : ℕ) (g : Agreed i t u) where
@@ -44,8 +44,8 @@ module _ (t u : List ℕ) where
         go k b (no p) = g .entry k (omega arith)
 
     -- all places
-    pub same-all : length u ≡ length t → length t ≤ i → true ≡ alike t u
-    same-all l b = sym (alike-iff t u .1 (ext-getD 0 t u (sym l) (λ k d. g .entry k (omega arith))))
+    pub same-all : length u ≡ length t → length t ≤ i → true ≡ equal t u
+    same-all l b = sym (equal-iff t u .1 (ext-getD 0 t u (sym l) (λ k d. g .entry k (omega arith))))
 
 -- two pairs of tables, each compared
 module _ (a b s : Bool) (e : s ≡ a) where

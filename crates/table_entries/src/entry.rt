@@ -5,8 +5,8 @@ ghost use mathlib.Core.List.{[], _∷_};
 ghost use Prim.Native.Nat.{_<_};
 ghost use lib.Dec.{eqb};
 ghost use lib.ListN.{length, set, replicate};
+ghost use Rattle.laws.specs.Equal.{equal};
 ghost use Rattle.point_darts.specs.Dart.{mark, dart};
-ghost use Rattle.paper.specs.Drawing.{alike};
 ghost use Rattle.paper.specs.Joining.{at};
 ghost use Rattle.paper.specs.Refusal.{cleared};
 ghost use Rattle.table_entries.specs.Pointed.{fourAt};
@@ -80,7 +80,7 @@ pub fn clear_four(a: &mut [u16], b: &mut [u16], c: &mut [u16], d: &mut [u16])
 
 // Whether two tables have the same entries.
 pub fn same(left: &[u16], right: &[u16]) -> bool
-    ensures { λ r. ⌜ r ≡ alike (now (left .entry)) (now (right .entry)) ⌝ }
+    ensures { λ r. ⌜ r ≡ equal (now (left .entry)) (now (right .entry)) ⌝ }
 {
     let n = left.len();
     if right.len() != n {
@@ -99,7 +99,7 @@ pub fn same(left: &[u16], right: &[u16]) -> bool
 // Whether two pairs of tables have the same entries.
 pub fn both_same(s: &[u16], t: &[u16], u: &[u16], v: &[u16]) -> bool
     ensures { λ r. ⌜
-        r ≡ (alike (now (s .entry)) (now (t .entry)) && alike (now (u .entry)) (now (v .entry)))
+        r ≡ (equal (now (s .entry)) (now (t .entry)) && equal (now (u .entry)) (now (v .entry)))
         ⌝ }
 {
     if same(s, t) {

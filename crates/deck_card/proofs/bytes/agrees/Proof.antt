@@ -3,7 +3,8 @@ use Prim.Native.Nat.{_+_, _-_, _≤_, _<_}
 use native.Mathlib.Omega.{arith}
 use lib.ListN.{length}
 use lib.Seq.{slice}
-use Rattle.deck_card.specs.Card.{long, equal, card}
+use Rattle.laws.specs.Equal.{equal}
+use Rattle.deck_card.specs.Card.{long, card}
 use Rattle.deck_card.proofs.Cards.{length-card}
 use Rattle.deck_card.proofs.Every.{equal-stop, equal-go, equal-end}
 use Rattle.deck_card.proofs.bytes.agrees.Statement.{statement}

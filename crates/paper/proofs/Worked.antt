@@ -11,22 +11,23 @@ use Prim.Native.Nat.{ℕ}
 use lib.Dec.{eqb}
 use lib.ListN.{replicate}
 use borrow.Author.Tests.{eqb-true}
+use Rattle.laws.specs.Equal.{equal}
+use Rattle.laws.proofs.Cases.{Case, failed, none-failed}
+use Rattle.laws.proofs.Equal.{equal-true}
 use Rattle.laws.proofs.Test.{and-left, and-right}
-use Rattle.paper.specs.Drawing.{Tables, drawing, alike}
+use Rattle.paper.specs.Drawing.{Tables, drawing}
 use Rattle.paper.specs.Refusal.{Outcome, five, levelled, mapped, merged, deepened, holed}
-use Rattle.paper.proofs.Alike.{alike-equal}
-use Rattle.paper.proofs.Cases.{Case, failed, none-failed}
 use Rattle.paper.proofs.Opened.{opened}
 
 unfoldable pub same-tables : List (List ℕ) → List (List ℕ) → Bool
 same-tables [] [] = true
 same-tables [] (u ∷ us) = false
 same-tables (t ∷ ts) [] = false
-same-tables (t ∷ ts) (u ∷ us) = alike t u && same-tables ts us
+same-tables (t ∷ ts) (u ∷ us) = equal t u && same-tables ts us
 
 unfoldable pub same-outcome : Outcome → Outcome → Bool
 same-outcome o p =
-    (eqb (o .number) (p .number) && alike (o .values) (p .values))
+    (eqb (o .number) (p .number) && equal (o .values) (p .values))
     && (same-tables (o .tables) (p .tables) && same-tables (o .work) (p .work))
 
 tables-equal : (ts us : List (List ℕ)) → same-tables ts us ≡ true → ts ≡ us
@@ -35,20 +36,20 @@ tables-equal [] [] e = refl
 tables-equal [] (u ∷ us) e = absurd (false≢true e)
 tables-equal (t ∷ ts) [] e = absurd (false≢true e)
 tables-equal (t ∷ ts) (u ∷ us) e =
-    ap₂ _∷_ (alike-equal t u (and-left (alike t u) (same-tables ts us) e))
-    (tables-equal ts us (and-right (alike t u) (same-tables ts us) e))
+    ap₂ _∷_ (equal-true t u (and-left (equal t u) (same-tables ts us) e))
+    (tables-equal ts us (and-right (equal t u) (same-tables ts us) e))
 
 pub outcome-equal : (o p : Outcome) → same-outcome o p ≡ true → o ≡ p
 unfolding same-outcome
 outcome-equal o p e =
     let k = eqb (o .number) (p .number) in
-    let v = alike (o .values) (p .values) in
+    let v = equal (o .values) (p .values) in
     let t = same-tables (o .tables) (p .tables) in
     let w = same-tables (o .work) (p .work) in
     let a = and-left (k && v) (t && w) e in
     let b = and-right (k && v) (t && w) e in
     let n = eqb-true (o .number) (p .number) (and-left k v a) in
-    let vs = alike-equal (o .values) (p .values) (and-right k v a) in
+    let vs = equal-true (o .values) (p .values) (and-right k v a) in
     let ts = tables-equal (o .tables) (p .tables) (and-left t w b) in
     let ws = tables-equal (o .work) (p .work) (and-right t w b) in
     λ i. record { number = n i; values = vs i; tables = ts i; work = ws i }

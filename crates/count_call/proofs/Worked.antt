@@ -2,9 +2,9 @@
 -- wrong too, and done. Names are those of the cases of the paper's calls.
 use mathlib.Core.Path.{_≡_, refl}
 use mathlib.Core.List.{List, [], _∷_, _++_, map}
+use Rattle.laws.proofs.Cases.{Case, failed, none-failed}
 use Rattle.paper.specs.Refusal.{Outcome, five}
-use Rattle.paper.proofs.Cases.{Case, failed, none-failed}
-use Rattle.paper.proofs.Outcomes.{same-outcome, outcome-equal, ends, refused, none, joined-two, rubbish, works, clean, calls-open}
+use Rattle.paper.proofs.Worked.{same-outcome, outcome-equal, ends, refused, none, joined-two, rubbish, works, clean, calls-open}
 use Rattle.region_depths.specs.Tree.{known}
 use Rattle.region_depths.specs.Census.{countedAt, counts}
 use Rattle.count_call.specs.Tally.{tallyRefusal, tallied}
