@@ -48,9 +48,9 @@ pub fn part_refusal(width: u16, card: &[u8]) -> u16
 }
 
 // The part of a lent card that holds its cells: its first bytes, as many as the width says. It is empty exactly where
-// part_refusal gives a number.
+// part_refusal gives a number. Empty or not, it begins where the card begins: ptr is where a slice begins.
 pub fn part<'a>(width: u16, card: &'a [u8]) -> &'a [u8]
-    ensures { λ r. ⌜ now r ≡ part width (now (card .entry)) ⌝ }
+    ensures { λ r. ⌜ (now r ≡ part width (now (card .entry))) × (r .ptr ≡ card .entry .ptr) ⌝ }
 {
     if part_refusal(width, card) != 0 {
         return &card[..0];

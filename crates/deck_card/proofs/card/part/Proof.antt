@@ -1,4 +1,4 @@
-use mathlib.Core.Path.{sym}
+use mathlib.Core.Path.{refl, sym}
 use lib.Seq.{length-take-le}
 use borrow.Author.Needs.{needs}
 use Rattle.deck_card.proofs.Parts.{part-refused, part-given, part-long}
@@ -15,9 +15,10 @@ returns : tie.Need-returns
 returns c =
     let at-part-refusal = c .before .before in
     let start = at-part-refusal .before .before in
-    let a = start .args in
-    sym (part-refused (a .width) (a .card .now)
-    (rw (← (at-part-refusal .part-refusal .ensures)) (c .before .if1 .taken)))
+    let a = start .args in (
+      sym (part-refused (a .width) (a .card .now) (rw (← (at-part-refusal .part-refusal .ensures)) (c .before .if1 .taken))),
+      refl,
+    )
 
 slice-aggregate-result-2 : tie.Need-slice-aggregate-result-2
 slice-aggregate-result-2 c =
@@ -31,9 +32,10 @@ returns-2 : tie.Need-returns-2
 returns-2 c =
     let at-part-refusal = c .before .before in
     let start = at-part-refusal .before .before in
-    let a = start .args in
-    sym (part-given (a .width) (a .card .now)
-    (rw (← (at-part-refusal .part-refusal .ensures)) (c .before .if1 .left)))
+    let a = start .args in (
+      sym (part-given (a .width) (a .card .now) (rw (← (at-part-refusal .part-refusal .ensures)) (c .before .if1 .left))),
+      refl,
+    )
 
 pub part-spec : {M : Type 1} → statement M
 part-spec =

@@ -38,7 +38,7 @@ cells-decide c =
     let s = start .args in
     let e = sym (at-form .refusal .ensures) ∙ at-if1 .if1 .left in
     let w = form-none (s .number) (s .card .now) e .whole-is in
-    let p = c .before .part .ensures ∙ part-held (s .cells) (s .card .now) (start .pre) w in
+    let p = c .before .part .ensures .0 ∙ part-held (s .cells) (s .card .now) (start .pre) w in
     simp (row-is (s .cells) (s .number) (s .card .now) e, ← p, ← (c .all-between .ensures))
 
 returns-2 : tie.Need-returns-2

@@ -67,7 +67,7 @@ row-is : (c : tie.After-part Inv-loop μ-loop)
     (take long (c .before .before .before .before .loop .rest .now))
 row-is c =
     let at-held = c .before .before in
-    rw (← (c .before .next .ensures), ← (at-held .held .ensures)) (c .part .ensures)
+    rw (← (c .before .next .ensures), ← (at-held .held .ensures)) (c .part .ensures .0)
 
 copy-requires : tie.Need-copy-requires Inv-loop μ-loop
 copy-requires c κs =
