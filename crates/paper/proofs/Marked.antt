@@ -16,6 +16,7 @@ use Rattle.laws.specs.Equal.{equal}
 use Rattle.laws.specs.Table.{number, count}
 use Rattle.laws.proofs.Cases.{Case, failed, none-failed}
 use Rattle.laws.proofs.Equal.{equal-true}
+use Rattle.sheet_size.specs.Size.{within}
 use Rattle.point_darts.specs.Dart.{mark, points, slots}
 use Rattle.point_darts.specs.Point.{degree}
 use Rattle.paper.specs.Name.{names}
@@ -167,6 +168,9 @@ beside-claims =
     -- depth and hole count of the outside, of a ring and of what the ring encloses
     ∷ record { computed = map (depth ((drawing 3 3 p5) .parent)) (0 ∷ 1 ∷ 5 ∷ []); stated = 0 ∷ 1 ∷ 2 ∷ [] }
     ∷ record { computed = map (holes ((drawing 3 3 p5) .parent)) (0 ∷ 1 ∷ 5 ∷ []); stated = 1 ∷ 1 ∷ 0 ∷ [] }
+    -- the limits of width and height
+    ∷ record { computed = map (λ n. number (within n 1)) (0 ∷ 1 ∷ 72 ∷ 73 ∷ []); stated = 0 ∷ 1 ∷ 1 ∷ 0 ∷ [] }
+    ∷ record { computed = map (λ n. number (within 1 n)) (0 ∷ 1 ∷ 72 ∷ 73 ∷ []); stated = 0 ∷ 1 ∷ 1 ∷ 0 ∷ [] }
     -- the anchor of a closed curve is its topmost point, and not its leftmost, drawn and after a join
     ∷ record { computed = ones 4 4 ((drawing 4 4 bent-inside) .next3); stated = 0 ∷ 1 ∷ 28 ∷ 29 ∷ [] }
     ∷ record { computed = ones 4 4 ((joined 4 4 (drawing 4 4 bent-parts) 7 10) .next3); stated = 0 ∷ 1 ∷ 28 ∷ 29 ∷ [] }
