@@ -7,15 +7,16 @@
 --   parents ..      == the table of parents, by name: the region round the piece at the name's cell, or the mark
 --   parentage w h n == that table, of the sheet with the names n
 use mathlib.Core.Path.{_≡_, refl, sym, ap, _∙_}
-use mathlib.Core.Bool.{Bool, true, false, cond}
+use mathlib.Core.Bool.{Bool, true, false, cond, _&&_}
 use mathlib.Core.List.{List}
 use mathlib.Core.Logic.{_⊎_, inl, inr, ⊎-elim, _≢_, _↔_}
-use Prim.Native.Nat.{ℕ, suc, _+_, _*_, _-_, _/_, _%_, _<_, _≤_, zero-le}
+use Prim.Native.Nat.{ℕ, zero, suc, _+_, _*_, _-_, _/_, _%_, _<_, _≤_, zero-le}
 use native.Mathlib.Nat.{suc-mul, mul-le-mul-right, div-lt-iff-lt-mul}
-use native.Mathlib.Decide.{ℕ-discrete}
+use native.Mathlib.Decide.{ℕ-discrete, decLe}
 use native.Mathlib.Omega.{arith}
-use lib.Dec.{lit<}
+use lib.Dec.{eqb, lit<}
 use lib.ListN.{getD}
+use borrow.Author.Tests.{ne-eqb}
 use Rattle.laws.specs.Table.{number}
 use Rattle.laws.proofs.Table.{getD-table, getD-table-past}
 use Rattle.point_darts.specs.Dart.{mark, points, slots, dart, point, reversal}
@@ -152,6 +153,20 @@ module _ (w h : ℕ) (on : ℕ → Bool) (side : ℕ → ℕ) where
   pub parents-past : (r : ℕ) → w * h < r → getD (parents w h on side) r mark ≡ mark
   unfolding parents
   parents-past r b = getD-table-past (w * h + 1) (parent w on side (tops w h on)) r mark (omega arith)
+
+  -- nor has a name that no dart's side bears
+  pub parents-unborne : (r : ℕ) → ((d : ℕ) → on d ≡ true → side d ≢ r) → getD (parents w h on side) r mark ≡ mark
+  unfolding parent
+  parents-unborne zero u = parents-outside
+  parents-unborne (suc i) u = by (decLe (suc i) (w * h))
+    where
+      top : (k : Bool) → on (topSide w i) ≡ k → (x : ℕ) → cond (k && eqb (side (topSide w i)) (suc i)) x mark ≡ mark
+      top true e x = rw (ne-eqb (side (topSide w i)) (suc i) (u (topSide w i) e))
+      top false e x = refl
+
+      by : Dec (suc i ≤ w * h) → getD (parents w h on side) (suc i) mark ≡ mark
+      by (yes b) = parents-at (suc i) b ∙ top (on (topSide w i)) refl _
+      by (no b) = parents-past (suc i) (omega arith)
 
 abbrev pub parentage : ℕ → ℕ → List ℕ → List ℕ
 parentage w h n = parents w h (border w h n) (side w h n)

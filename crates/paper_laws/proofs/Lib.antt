@@ -13,6 +13,7 @@ pub mod Held
 pub mod IsDrawing
 pub mod Joined
 pub mod Kept
+pub mod Larger
 pub mod Marks
 pub mod Midway
 pub mod Name

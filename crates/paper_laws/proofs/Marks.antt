@@ -100,14 +100,25 @@ pub cells-slots : (w h : ℕ) → w * h < slots w h
 unfolding slots points
 cells-slots w h = rw (add-one h, mul-suc (w + 1) h, add-mul w 1 h) (omega arith)
 
--- On a sheet of a size that is one, every dart is below the mark.
-pub within-fits : (w h : ℕ) → within w h ≡ true → slots w h ≤ mark
-unfolding slots points mark
-within-fits w h e =
+-- How many slots a sheet of a size that is one has at most.
+pub slots-most : (w h : ℕ) → within w h ≡ true → slots w h ≤ 21316
+unfolding slots points
+slots-most w h e =
     let l = within-limits w h e in
     let a : w + 1 ≤ 73 = omega arith in
     let b : h + 1 ≤ 73 = omega arith in
     omega (arith, mul-le-mul a b)
+
+-- So every dart is below the mark, and so are every point and every name.
+pub within-fits : (w h : ℕ) → within w h ≡ true → slots w h ≤ mark
+unfolding mark
+within-fits w h e = omega (arith, slots-most w h e)
+
+pub mark-no-number : (w h : ℕ) → within w h ≡ true → (slots w h ≤ mark) × (points w h ≤ mark) × (w * h < mark)
+unfolding slots
+mark-no-number w h e =
+    let m = within-fits w h e in
+    (m, omega arith, omega (arith, cells-slots w h))
 
 -- The sides of darts are names, or 0 for the outside.
 module _ (w h : ℕ) (n : List ℕ) (small : (i : ℕ) → i < w * h → getD n i 0 ≤ w * h) where
