@@ -77,6 +77,10 @@ row = 65 ∷ 66 ∷ 65 ∷ []
 halves : List ℕ
 halves = 65 ∷ 66 ∷ 65 ∷ 66 ∷ []
 
+-- P5 with corner (0,0) labelled C: two lines in a row at one point lie between the regions 1 and 2
+open-ring : List ℕ
+open-ring = 67 ∷ 65 ∷ 65 ∷ 65 ∷ 66 ∷ 65 ∷ 65 ∷ 65 ∷ 65 ∷ []
+
 -- a closed curve that is no rectangle: its topmost point is not its leftmost
 bent-inside : List ℕ
 bent-inside = 65 ∷ 65 ∷ 65 ∷ 65 ∷ 65 ∷ 65 ∷ 66 ∷ 65 ∷ 65 ∷ 66 ∷ 66 ∷ 65 ∷ 65 ∷ 65 ∷ 65 ∷ 65 ∷ []
@@ -171,6 +175,9 @@ beside-claims =
     -- the limits of width and height
     ∷ record { computed = map (λ n. number (within n 1)) (0 ∷ 1 ∷ 72 ∷ 73 ∷ []); stated = 0 ∷ 1 ∷ 1 ∷ 0 ∷ [] }
     ∷ record { computed = map (λ n. number (within 1 n)) (0 ∷ 1 ∷ 72 ∷ 73 ∷ []); stated = 0 ∷ 1 ∷ 1 ∷ 0 ∷ [] }
+    -- a join at whose point two taken lines are met one after another
+    ∷ record { computed = (joined 3 3 (drawing 3 3 open-ring) 1 2) .next1; stated = (drawing 3 3 p5) .next1 }
+    ∷ record { computed = (joined 3 3 (drawing 3 3 open-ring) 1 2) .next3; stated = (drawing 3 3 p5) .next3 }
     -- the anchor of a closed curve is its topmost point, and not its leftmost, drawn and after a join
     ∷ record { computed = ones 4 4 ((drawing 4 4 bent-inside) .next3); stated = 0 ∷ 1 ∷ 28 ∷ 29 ∷ [] }
     ∷ record { computed = ones 4 4 ((joined 4 4 (drawing 4 4 bent-parts) 7 10) .next3); stated = 0 ∷ 1 ∷ 28 ∷ 29 ∷ [] }
@@ -205,7 +212,7 @@ hanging-claims : List Claim
 hanging-claims = map (λ j. record { computed = hanging-ends j; stated = [] }) joins
 
 sheets-open : Unit {0}
-unfolding p1 p2 p3 p5 p6 p7 p8 row halves bent-inside bent-parts
+unfolding p1 p2 p3 p5 p6 p7 p8 row halves open-ring bent-inside bent-parts
 sheets-open = tt
 
 cases-open : Unit {0}
