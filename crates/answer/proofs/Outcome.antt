@@ -57,7 +57,8 @@ module _ (k : ℕ) (vs : List ℕ) (ts us ws : List (List ℕ)) where
       by zero n xs e = absurd (n refl)
       by (suc k) n xs e = rw e
 
-  pub outcome-done : k ≡ 0 → (zs xs : List (List ℕ)) → zs ≡ us → xs ≡ cleared ws → ended 0 vs zs xs ≡ outcome k vs ts us ws
+  pub outcome-done : k ≡ 0 → (zs xs : List (List ℕ)) → zs ≡ us → xs ≡ cleared ws
+      → ended 0 vs zs xs ≡ outcome k vs ts us ws
   unfolding outcome
   outcome-done e zs xs p q = rw (e, p, q)
 

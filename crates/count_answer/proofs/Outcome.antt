@@ -5,7 +5,6 @@ use mathlib.Core.List.{List}
 use Prim.Native.Nat.{ℕ}
 use native.Mathlib.Omega.{arith}
 use Rattle.paper.specs.Refusal.{Outcome}
-use Rattle.answer.specs.Answer.{numberOf}
 use Rattle.answer.proofs.Outcome.{number-one}
 use Rattle.count_answer.specs.declared.Count.{Count}
 use Rattle.count_answer.specs.Count.{countNumber, values, counted}

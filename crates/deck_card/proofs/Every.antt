@@ -2,19 +2,19 @@
 --   every p (drop i l) == the entries from i on pass the test p
 --   equal (slice i e l) (slice i e m) == the lists l and m have the same entries from i up to e
 use mathlib.Core.Path.{_≡_, refl}
-use mathlib.Core.Bool.{Bool, true, false, and-false, false≢true}
+use mathlib.Core.Bool.{Bool, true, false, and-false}
 use mathlib.Core.List.{List, [], _∷_, _++_}
 use Prim.Native.Nat.{ℕ, zero, suc, _+_, _≤_, _<_}
 use native.Mathlib.Nat.{le-refl}
 use native.Mathlib.Numerals.{add-one}
 use native.Mathlib.Omega.{arith}
-use lib.Dec.{eqb, leb}
+use lib.Dec.{leb}
 use lib.ListN.{length, getD, take, drop, replicate}
 use lib.Seq.{slice, slice-cons, slice-empty}
-use borrow.Author.Tests.{eqb-true, eq-eqb, ne-eqb, le-leb, lt-leb, leb-true}
+use borrow.Author.Tests.{eq-eqb, ne-eqb, le-leb, lt-leb, leb-true}
 use Rattle.laws.specs.Equal.{equal}
-use Rattle.laws.proofs.Test.{and-left, and-right}
 use Rattle.laws.specs.Every.{every}
+use Rattle.laws.proofs.Test.{and-left, and-right}
 use Rattle.deck_card.specs.Card.{blank, lowest, highest, fromTo, visible}
 
 -- A test of a range.

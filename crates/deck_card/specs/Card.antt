@@ -13,7 +13,7 @@
 --   measured w      == w is a width that a card can hold: 1 to 72
 --   part w c        == the first w bytes of c where w is such a width and c is whole, else nothing
 --   partRefusal w c == 1 or 20 where the part is empty for that reason, in this order, else 0
-use mathlib.Core.Bool.{Bool, true, false, cond, _&&_}
+use mathlib.Core.Bool.{Bool, cond, _&&_}
 use mathlib.Core.List.{List, [], _∷_, _++_}
 use Prim.Native.Nat.{ℕ, zero, suc, _+_, _-_, _/_, _%_}
 use lib.Dec.{eqb, leb}

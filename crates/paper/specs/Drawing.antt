@@ -6,7 +6,7 @@
 --   recovered w h s == the labels that the sides of level 1 tell
 --   isDrawing w h t    == the five tables are the drawing of the recovered labels
 use mathlib.Core.Path.{_≡_}
-use mathlib.Core.Bool.{Bool, true, false, cond, _&&_}
+use mathlib.Core.Bool.{Bool, cond, _&&_}
 use mathlib.Core.List.{List, [], _∷_, map}
 use Prim.Native.Nat.{ℕ, zero, suc, _+_, _*_, _/_}
 use lib.Dec.{eqb}

@@ -1,12 +1,11 @@
 -- A join leaves the larger of the two names without a parent: no side bears it any more.
 --   joined w h t a b == the five tables after the joining of a and b
-use mathlib.Core.Path.{_≡_, refl, sym, _∙_}
-use mathlib.Core.Bool.{Bool, true, false, cond, not, true≢false}
+use mathlib.Core.Path.{_≡_, sym, _∙_}
+use mathlib.Core.Bool.{Bool, true, false, cond, true≢false}
 use mathlib.Core.Logic.{_≢_, _⊎_, inl, inr, ⊎-elim}
-use Prim.Native.Nat.{ℕ, max, _<_, _≤_}
+use Prim.Native.Nat.{ℕ, max, _<_}
 use native.Mathlib.Decide.{decLt}
 use native.Mathlib.Omega.{arith}
-use lib.Dec.{eqb}
 use borrow.Author.Tests.{eq-eqb}
 use Rattle.laws.specs.Least.{lower}
 use Rattle.laws.proofs.Least.{lower-cases}
