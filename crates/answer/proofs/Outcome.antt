@@ -10,9 +10,9 @@ use Prim.Native.Nat.{ℕ, zero, suc, _≤_, _<_}
 use native.Mathlib.Omega.{arith}
 use lib.Dec.{eqb, ltb}
 use borrow.Author.Tests.{lt-ltb, le-ltb}
-use Rattle.paper.specs.Refusal.{Outcome, outcome, cleared}
+use Rattle.paper.specs.Refusal.{Outcome, ended, outcome, cleared}
 use Rattle.answer.specs.declared.Answer.{Answer}
-use Rattle.answer.specs.Answer.{numberOf, ended, told}
+use Rattle.answer.specs.Answer.{numberOf, told}
 
 pub work-left : ℕ → List (List ℕ) → List (List ℕ)
 work-left zero ws = cleared ws
@@ -87,7 +87,17 @@ module _ (r : Answer) (k : ℕ) (e : numberOf r ≡ k) where
       by zero p = rw p
       by (suc k) p = rw p
 
--- One outcome is one answer, with one list of tables and one of work tables.
+-- One outcome has one number, one list of values, one of tables and one of work tables.
+pub ended-one : (k n : ℕ) (vs us : List ℕ) (ts xs ws ys : List (List ℕ)) → ended k vs ts ws ≡ ended n us xs ys
+    → (k ≡ n) × (vs ≡ us) × (ts ≡ xs) × (ws ≡ ys)
+ended-one k n vs us ts xs ws ys e = (
+  ap (λ (o : Outcome). o .number) e,
+  ap (λ (o : Outcome). o .values) e,
+  ap (λ (o : Outcome). o .tables) e,
+  ap (λ (o : Outcome). o .work) e,
+)
+
+-- The number tells the answer, so one outcome is one answer.
 answerOf : ℕ → Answer
 answerOf n =
     cond (eqb n 0) Answer.Done
@@ -120,8 +130,6 @@ number-one r q e = sym (answer-of r) ∙ ap answerOf e ∙ answer-of q
 pub told-one : (r q : Answer) (ts us ws xs : List (List ℕ)) → told r ts ws ≡ told q us xs
     → (r ≡ q) × (ts ≡ us) × (ws ≡ xs)
 unfolding told
-told-one r q ts us ws xs e = (
-  number-one r q (ap (λ (o : Outcome). o .number) e),
-  ap (λ (o : Outcome). o .tables) e,
-  ap (λ (o : Outcome). o .work) e,
-)
+told-one r q ts us ws xs e =
+    let (n, v, t, w) = ended-one (numberOf r) (numberOf q) [] [] ts us ws xs e in
+    (number-one r q n, t, w)

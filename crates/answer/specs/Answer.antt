@@ -1,10 +1,9 @@
 -- What a call answers (the paper, "Refusal numbers and their order").
 --   numberOf r      == the number of the refusal that the answer r tells, 0 for done
---   ended k vs ts ws == the outcome with the number k, the values vs, and these tables and work tables left
 --   told r ts ws    == the outcome that the answer r tells, with no values
 use mathlib.Core.List.{List, []}
 use Prim.Native.Nat.{ℕ}
-use Rattle.paper.specs.Refusal.{Outcome}
+use Rattle.paper.specs.Refusal.{Outcome, ended}
 use Rattle.answer.specs.declared.Answer.{Answer}
 
 unfoldable pub numberOf : Answer → ℕ
@@ -18,9 +17,6 @@ numberOf Answer.Outside = 6
 numberOf Answer.Equal = 7
 numberOf Answer.Name = 8
 numberOf Answer.Apart = 9
-
-abbrev pub ended : ℕ → List ℕ → List (List ℕ) → List (List ℕ) → Outcome
-ended k vs ts ws = record { number = k; values = vs; tables = ts; work = ws }
 
 unfoldable pub told : Answer → List (List ℕ) → List (List ℕ) → Outcome
 told r ts ws = ended (numberOf r) [] ts ws

@@ -4,8 +4,7 @@ use mathlib.Core.Path.{_≡_, ap}
 use mathlib.Core.List.{List}
 use Prim.Native.Nat.{ℕ}
 use native.Mathlib.Omega.{arith}
-use Rattle.paper.specs.Refusal.{Outcome}
-use Rattle.answer.proofs.Outcome.{number-one}
+use Rattle.answer.proofs.Outcome.{ended-one, number-one}
 use Rattle.count_answer.specs.declared.Count.{Count}
 use Rattle.count_answer.specs.Count.{countNumber, values, counted}
 
@@ -20,8 +19,6 @@ values-one (Count.Refused r) (Count.Refused q) n e = ap Count.Refused (number-on
 pub counted-one : (r q : Count) (ts us ws xs : List (List ℕ)) → counted r ts ws ≡ counted q us xs
     → (r ≡ q) × (ts ≡ us) × (ws ≡ xs)
 unfolding counted
-counted-one r q ts us ws xs e = (
-  values-one r q (ap (λ (o : Outcome). o .number) e) (ap (λ (o : Outcome). o .values) e),
-  ap (λ (o : Outcome). o .tables) e,
-  ap (λ (o : Outcome). o .work) e,
-)
+counted-one r q ts us ws xs e =
+    let (n, v, t, w) = ended-one (countNumber r) (countNumber q) (values r) (values q) ts us ws xs e in
+    (values-one r q n v, t, w)

@@ -12,9 +12,9 @@ use lib.Dec.{eqb}
 use lib.ListN.{length}
 use Rattle.point_darts.specs.Dart.{mark}
 use Rattle.region_depths.specs.Tree.{Falls}
-use Rattle.paper.specs.Refusal.{Outcome}
+use Rattle.paper.specs.Refusal.{Outcome, ended}
 use Rattle.answer.specs.declared.Answer.{Answer}
-use Rattle.answer.specs.Answer.{numberOf, ended}
+use Rattle.answer.specs.Answer.{numberOf}
 use Rattle.count_answer.specs.declared.Count.{Count}
 
 unfoldable pub countNumber : Count → ℕ

@@ -3,8 +3,8 @@
 use mathlib.Core.Path.{_≡_, refl}
 use mathlib.Core.List.{List, [], _∷_, _++_, map}
 use Rattle.laws.proofs.Cases.{Case, failed, none-failed}
-use Rattle.paper.specs.Refusal.{Outcome, five}
-use Rattle.paper.proofs.Worked.{same-outcome, outcome-equal, ends, refused, none, joined-two, rubbish, works, clean, calls-open}
+use Rattle.paper.specs.Refusal.{Outcome, ended, five}
+use Rattle.paper.proofs.Worked.{same-outcome, outcome-equal, refused, none, joined-two, rubbish, works, clean, calls-open}
 use Rattle.region_depths.specs.Tree.{known}
 use Rattle.region_depths.specs.Census.{countedAt, counts}
 use Rattle.count_call.specs.Tally.{tallyRefusal, tallied}
@@ -29,7 +29,7 @@ tallies =
     }
     ∷ record {
       computed = tallied 2 1 joined-two (7 ∷ 7 ∷ 7 ∷ []) (8 ∷ 8 ∷ 8 ∷ []) (works 24 24);
-      stated = ends 0 [] (five joined-two ++ (0 ∷ 1 ∷ none ∷ []) ∷ (1 ∷ 0 ∷ none ∷ []) ∷ []) (clean 24);
+      stated = ended 0 [] (five joined-two ++ (0 ∷ 1 ∷ none ∷ []) ∷ (1 ∷ 0 ∷ none ∷ []) ∷ []) (clean 24);
     }
     ∷ []
 

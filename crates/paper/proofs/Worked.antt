@@ -1,8 +1,7 @@
 -- The outcome of each call, by worked cases: every refusal once, judged where all that comes later in the order is wrong too, and
 -- done. One statement over one list: number, values, tables and work tables.
 --   same-outcome    == two outcomes are equal in all four
---   ends k vs ts ws == the outcome with the number k, the values vs, and these tables and work tables left
---   refused k ts ws == the same with no values
+--   refused k ts ws == the outcome with the number k, no values, and these tables and work tables left
 --   one, two, four  == the drawings of P1, P2 and P7; joined-two is P2 with its two regions joined
 use mathlib.Core.Path.{_≡_, refl, ap₂}
 use mathlib.Core.Bool.{Bool, true, false, _&&_, false≢true}
@@ -16,7 +15,7 @@ use Rattle.laws.proofs.Cases.{Case, failed, none-failed}
 use Rattle.laws.proofs.Equal.{equal-true}
 use Rattle.laws.proofs.Test.{and-left, and-right}
 use Rattle.paper.specs.Drawing.{Tables, drawing}
-use Rattle.paper.specs.Refusal.{Outcome, five, levelled, mapped, merged, deepened, holed}
+use Rattle.paper.specs.Refusal.{Outcome, ended, five, levelled, mapped, merged, deepened, holed}
 use Rattle.paper.proofs.Opened.{opened}
 
 unfoldable pub same-tables : List (List ℕ) → List (List ℕ) → Bool
@@ -54,11 +53,8 @@ outcome-equal o p e =
     let ws = tables-equal (o .work) (p .work) (and-right t w b) in
     λ i. record { number = n i; values = vs i; tables = ts i; work = ws i }
 
-unfoldable pub ends : ℕ → List ℕ → List (List ℕ) → List (List ℕ) → Outcome
-ends k vs ts ws = record { number = k; values = vs; tables = ts; work = ws }
-
 unfoldable pub refused : ℕ → List (List ℕ) → List (List ℕ) → Outcome
-refused k ts ws = ends k [] ts ws
+refused k ts ws = ended k [] ts ws
 
 -- the mark, as the tables below have it
 unfoldable pub none : ℕ
@@ -126,18 +122,18 @@ calls =
     ∷ record { computed = levelled 1 1 1 (65 ∷ []) (lent 16) (works 16 17); stated = refused 4 (lent 16) (works 16 17) }
     ∷ record {
       computed = levelled 1 1 1 (65 ∷ []) (lent 16) (works 16 16);
-      stated = ends 0 [] (next-1 ∷ other-1 ∷ side-1 ∷ []) (clean 16);
+      stated = ended 0 [] (next-1 ∷ other-1 ∷ side-1 ∷ []) (clean 16);
     }
     ∷ record {
       computed = levelled 1 1 3 (65 ∷ []) (lent 16) (works 16 16);
-      stated = ends 0 [] (anchored 14 0 1 ∷ anchored 14 1 0 ∷ anchored 14 1 0 ∷ []) (clean 16);
+      stated = ended 0 [] (anchored 14 0 1 ∷ anchored 14 1 0 ∷ anchored 14 1 0 ∷ []) (clean 16);
     }
     -- whole drawing
     ∷ record { computed = mapped 73 1 [] (rubbish 3) (works 16 17); stated = refused 1 (five (rubbish 3)) (works 16 17) }
     ∷ record { computed = mapped 1 1 [] (rubbish 3) (works 16 17); stated = refused 3 (five (rubbish 3)) (works 16 17) }
     ∷ record { computed = mapped 1 1 (65 ∷ []) (rubbish 3) (works 16 16); stated = refused 4 (five (rubbish 3)) (works 16 16) }
     ∷ record { computed = mapped 1 1 (65 ∷ []) (rubbish 2) (works 16 17); stated = refused 4 (five (rubbish 2)) (works 16 17) }
-    ∷ record { computed = mapped 1 1 (65 ∷ []) (rubbish 2) (works 16 16); stated = ends 0 [] (five one) (clean 16) }
+    ∷ record { computed = mapped 1 1 (65 ∷ []) (rubbish 2) (works 16 16); stated = ended 0 [] (five one) (clean 16) }
     -- joining
     ∷ record { computed = merged 1 0 (rubbish 3) 0 0 (works 16 17); stated = refused 1 (five (rubbish 3)) (works 16 17) }
     ∷ record { computed = merged 1 1 (rubbish 3) 0 0 (works 16 16); stated = refused 4 (five (rubbish 3)) (works 16 16) }
@@ -149,26 +145,26 @@ calls =
     ∷ record { computed = merged 2 1 two 1 3 (works 24 24); stated = refused 8 (five two) (clean 24) }
     ∷ record { computed = merged 2 1 two 3 1 (works 24 24); stated = refused 8 (five two) (clean 24) }
     ∷ record { computed = merged 2 2 four 1 4 (works 36 36); stated = refused 9 (five four) (clean 36) }
-    ∷ record { computed = merged 2 1 two 1 2 (works 24 24); stated = ends 0 [] (five joined-two) (clean 24) }
-    ∷ record { computed = merged 2 1 two 2 1 (works 24 24); stated = ends 0 [] (five joined-two) (clean 24) }
+    ∷ record { computed = merged 2 1 two 1 2 (works 24 24); stated = ended 0 [] (five joined-two) (clean 24) }
+    ∷ record { computed = merged 2 1 two 2 1 (works 24 24); stated = ended 0 [] (five joined-two) (clean 24) }
     -- depth
     ∷ record { computed = deepened 73 1 (rubbish 3) 9 (works 16 17); stated = refused 1 (five (rubbish 3)) (works 16 17) }
     ∷ record { computed = deepened 1 1 (rubbish 2) 9 (works 16 17); stated = refused 4 (five (rubbish 2)) (works 16 17) }
     ∷ record { computed = deepened 1 1 (rubbish 2) 9 (works 16 16); stated = refused 5 (five (rubbish 2)) (clean 16) }
     ∷ record { computed = deepened 2 1 two 3 (works 24 24); stated = refused 8 (five two) (clean 24) }
-    ∷ record { computed = deepened 2 1 two 0 (works 24 24); stated = ends 0 (0 ∷ []) (five two) (clean 24) }
-    ∷ record { computed = deepened 2 1 two 2 (works 24 24); stated = ends 0 (1 ∷ []) (five two) (clean 24) }
+    ∷ record { computed = deepened 2 1 two 0 (works 24 24); stated = ended 0 (0 ∷ []) (five two) (clean 24) }
+    ∷ record { computed = deepened 2 1 two 2 (works 24 24); stated = ended 0 (1 ∷ []) (five two) (clean 24) }
     -- hole count
     ∷ record { computed = holed 1 73 (rubbish 3) 9 (works 16 17); stated = refused 1 (five (rubbish 3)) (works 16 17) }
     ∷ record { computed = holed 1 1 (rubbish 2) 9 (works 16 17); stated = refused 4 (five (rubbish 2)) (works 16 17) }
     ∷ record { computed = holed 1 1 (rubbish 2) 9 (works 16 16); stated = refused 5 (five (rubbish 2)) (clean 16) }
     ∷ record { computed = holed 2 1 two 3 (works 24 24); stated = refused 8 (five two) (clean 24) }
-    ∷ record { computed = holed 2 1 two 0 (works 24 24); stated = ends 0 (2 ∷ []) (five two) (clean 24) }
-    ∷ record { computed = holed 2 1 two 2 (works 24 24); stated = ends 0 (0 ∷ []) (five two) (clean 24) }
+    ∷ record { computed = holed 2 1 two 0 (works 24 24); stated = ended 0 (2 ∷ []) (five two) (clean 24) }
+    ∷ record { computed = holed 2 1 two 2 (works 24 24); stated = ended 0 (0 ∷ []) (five two) (clean 24) }
     ∷ []
 
 unfoldable pub calls-open : Unit {0}
-unfolding opened same-tables same-outcome ends refused none next-1 side-1 anchored one joined-two rubbish works clean
+unfolding opened same-tables same-outcome refused none next-1 side-1 anchored one joined-two rubbish works clean
 calls-open = tt
 
 calls-hold : failed same-outcome 0 calls ≡ []

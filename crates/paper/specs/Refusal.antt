@@ -2,6 +2,7 @@
 --   number          == the refusal's number, 0 for done
 --   values          == the numbers that are answered
 --   tables, work    == what the lent tables and the work tables hold afterwards, in the order in which they are lent
+--   ended k vs ts ws == the outcome with the number k, the values vs, and these tables and work tables left
 --   .. Tests        == the tests of a call in the paper's order, each with the number of the refusal where it is not passed: n is the
 --                      sheet's length, k says that the lengths of the tables are the stated ones
 --   .. Refusal      == the number of the first refusal, 0 for none
@@ -27,6 +28,9 @@ pub record Outcome : Type 0 where
   pub tables : List (List ℕ)
   pub work : List (List ℕ)
 
+abbrev pub ended : ℕ → List ℕ → List (List ℕ) → List (List ℕ) → Outcome
+ended k vs ts ws = record { number = k; values = vs; tables = ts; work = ws }
+
 -- every table has n entries
 unfoldable pub sized : ℕ → List (List ℕ) → Bool
 sized n [] = true
@@ -37,9 +41,8 @@ cleared ws = map (λ t. replicate (length t) 0) ws
 
 -- a refusal leaves the tables; refusals 1 to 4 leave the work tables, every later outcome clears them
 unfoldable pub outcome : ℕ → List ℕ → List (List ℕ) → List (List ℕ) → List (List ℕ) → Outcome
-outcome zero values before after ws = record { number = 0; values = values; tables = after; work = cleared ws }
-outcome (suc r) values before after ws =
-    record { number = suc r; values = []; tables = before; work = cond (ltb r 4) ws (cleared ws) }
+outcome zero values before after ws = ended 0 values after (cleared ws)
+outcome (suc r) values before after ws = ended (suc r) [] before (cond (ltb r 4) ws (cleared ws))
 
 -- Level drawing.
 unfoldable pub levelTests : ℕ → ℕ → ℕ → ℕ → Bool → List (Bool × ℕ)

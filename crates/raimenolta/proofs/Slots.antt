@@ -11,9 +11,9 @@ use lib.ListN.{length}
 use borrow.Author.Tests.{ne-eqb}
 use Rattle.paper.specs.Enclosure.{depth, holes}
 use Rattle.paper.specs.Drawing.{Tables}
-use Rattle.paper.specs.Refusal.{Outcome, outcome, five, countRefusal, deepened, holed}
+use Rattle.paper.specs.Refusal.{Outcome, ended, outcome, five, countRefusal, deepened, holed}
 use Rattle.count_answer.specs.declared.Count.{Count}
-use Rattle.answer.specs.Answer.{numberOf, ended}
+use Rattle.answer.specs.Answer.{numberOf}
 use Rattle.count_answer.specs.Count.{countNumber, values, counted}
 use Rattle.deck_card.specs.declared.answer.Read.{Read}
 use Rattle.deck_card.specs.Outcome.{readOutcome}

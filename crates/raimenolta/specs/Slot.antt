@@ -9,9 +9,8 @@ use mathlib.Core.Bool.{cond}
 use mathlib.Core.List.{List, [], _∷_, _++_}
 use Prim.Native.Nat.{ℕ}
 use lib.Dec.{eqb}
-use Rattle.paper.specs.Refusal.{Outcome}
+use Rattle.paper.specs.Refusal.{Outcome, ended}
 use Rattle.deck_card.specs.Outcome.{DeckOutcome}
-use Rattle.answer.specs.Answer.{ended}
 
 unfoldable pub doneHeld : Outcome → List ℕ → List ℕ
 doneHeld o l = cond (eqb (o .number) 0) (o .values) l

@@ -4,7 +4,7 @@ ghost use mathlib.Core.List.{[], _∷_};
 ghost use Rattle.deck_card.specs.Card.{partRefusal};
 ghost use Rattle.deck_reading.specs.Reading.{reading};
 ghost use Rattle.deck_writing.specs.Writing.{writing};
-ghost use Rattle.answer.specs.Answer.{ended};
+ghost use Rattle.paper.specs.Refusal.{ended};
 ghost use Rattle.raimenolta.specs.Slot.{carded, slottedTwice};
 
 // Reads a deck into the cell table. When it is done the size holds the width and the height, and the card is left as it

@@ -2,11 +2,10 @@
 use check_call::check;
 ghost use mathlib.Core.Path.{_≡_};
 ghost use mathlib.Core.List.{[], _∷_, _++_};
-ghost use Rattle.paper.specs.Refusal.{five, merged, deepened, holed};
+ghost use Rattle.paper.specs.Refusal.{ended, five, merged, deepened, holed};
 ghost use Rattle.table_lengths.specs.Given.{tables, works};
 ghost use Rattle.check_answer.specs.Check.{checked};
 ghost use Rattle.count_call.specs.Tally.{tallied};
-ghost use Rattle.answer.specs.Answer.{ended};
 ghost use Rattle.join_call.specs.Faithful.{Faithful};
 ghost use Rattle.raimenolta.specs.Slot.{slotted};
 

@@ -1,9 +1,8 @@
 // Drawing a sheet: one level, or the whole drawing.
 ghost use mathlib.Core.Path.{_≡_};
 ghost use mathlib.Core.List.{[], _∷_};
-ghost use Rattle.paper.specs.Refusal.{levelled, five, mapped};
+ghost use Rattle.paper.specs.Refusal.{ended, levelled, five, mapped};
 ghost use Rattle.table_lengths.specs.Given.{tables, works};
-ghost use Rattle.answer.specs.Answer.{ended};
 
 // Draws a level of a sheet: next, other and side. Refusals 1, 2, 3 and 4.
 #[no_mangle]
