@@ -1,4 +1,4 @@
 mod Accepted
 mod Counting
-mod Worked
 mod Told
+mod Worked

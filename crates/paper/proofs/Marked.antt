@@ -4,6 +4,8 @@
 --   ones t          == the darts that a table of links has, in order
 --   read t ds       == the entries of a table at some places
 --   refusal ..      == the number of joining a with b in the drawing of a sheet
+--   accepted w h t  == 1 where the tables t are a drawing, else 0
+--   spoilt w h t    == the same of the tables t with one entry changed, in each of the five in turn
 --   hanging w h l   == the points that have exactly one line of the links l
 --   Join            == a sheet of a size, and two of its regions
 use mathlib.Core.Path.{_≡_, refl}
@@ -92,7 +94,6 @@ bent-parts = 65 ∷ 65 ∷ 65 ∷ 65 ∷ 65 ∷ 65 ∷ 66 ∷ 65 ∷ 65 ∷ 67 �
 accepted : ℕ → ℕ → Tables → List ℕ
 accepted w h t = number (isDrawing w h t) ∷ []
 
--- the same of the five tables with one entry changed: of the first table alone, of the second alone, and on
 spoilt : ℕ → ℕ → Tables → List ℕ
 spoilt w h t =
     let n = t .next1 in
