@@ -171,16 +171,21 @@ impl Level {
     }
 }
 
-/// The level whose darts are those that `present` says: next is the first present of right turn, straight on, left turn
-/// and back at the far point; other is the reversal.
+/// The direction of the line that follows at a point where these lines are present: the first of right turn, straight
+/// on, left turn and back, 4 where no line is present.
+pub fn next_line(present: u16, heading: u16) -> u16 {
+    let turns = [heading + 1, heading, heading + 3, heading + 2];
+    turns.into_iter().map(|turn| turn % 4).find(|turn| present >> turn & 1 == 1).unwrap_or(4)
+}
+
+/// The level whose darts are those that `present` says: next is the line that follows at the far point, other is the
+/// reversal.
 fn lines(size: Size, names: &[u16], present: impl Fn(usize) -> bool) -> Level {
     let mut level = Level::empty(size);
     for dart in (0..size.slots()).filter(|&d| present(d)) {
         let far = size.far(dart).expect("a line on the sheet");
-        let heading = dart % 4;
-        let turns = [heading + 1, heading, heading + 3, heading + 2];
-        let next = turns.iter().map(|turn| 4 * far + turn % 4).find(|&d| present(d)).expect("back is present");
-        level.next[dart] = next as u16;
+        let there = (0..4).filter(|k| present(4 * far + k)).map(|k| 1 << k).sum();
+        level.next[dart] = 4 * far as u16 + next_line(there, dart as u16 % 4);
         level.other[dart] = size.reversal(dart) as u16;
         level.side[dart] = side(size, names, dart);
     }

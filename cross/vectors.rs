@@ -8,6 +8,7 @@
 //!   not_drawings.txt   W H; five tables; 5, or 0 where they are a drawing
 //!   decks.txt          bytes in hexadecimal, - for none; 0 W H, or number card; labels of an accepted deck
 //! and those of the requests, in the folder `requests`:
+//!   t04_next.txt         present heading; direction, 4 for none
 //!   t07_point_table.txt  present taken; entry
 //!   t07_joins.txt        W H; labels; a b; present taken entry of each point; the tables after the join, five or more
 
@@ -78,6 +79,10 @@ fn join(fields: &[Vec<u16>]) -> bool {
     drawing == five(&fields[3..8])
 }
 
+fn next_line(fields: &[Vec<u16>]) -> bool {
+    naive::next_line(fields[0][0], fields[0][1]) == fields[1][0]
+}
+
 fn point_table(fields: &[Vec<u16>]) -> bool {
     naive::point_table(fields[0][0], fields[0][1]) == fields[1][0]
 }
@@ -135,6 +140,7 @@ pub fn run(folder: &Path) -> bool {
         file(folder, "join_refusals.txt", fields(join_refusal)),
         file(folder, "not_drawings.txt", fields(not_drawing)),
         file(folder, "decks.txt", deck),
+        file(folder, "requests/t04_next.txt", fields(next_line)),
         file(folder, "requests/t07_point_table.txt", fields(point_table)),
         file(folder, "requests/t07_joins.txt", fields(join_by_points)),
     ];

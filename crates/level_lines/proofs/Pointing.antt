@@ -1,24 +1,24 @@
 -- The entries of the darts that leave a point, levels 0 and 1.
 --   entryOf m f d   == the entry of f where the masks m have the line of dart d, else the mark
 --   onward w m d    == the dart that follows dart d
---   turning         == the table of turns
-use mathlib.Core.Path.{_≡_, refl, ap₂, _∙_}
+use mathlib.Core.Path.{_≡_, refl, _∙_}
 use mathlib.Core.Bool.{Bool, true, false, cond, _&&_}
 use mathlib.Core.List.{List}
 use Prim.Native.Nat.{ℕ, _+_, _*_, _/_, _%_, _≤_, _<_}
+use native.Mathlib.Nat.{mul-le-mul-left}
 use native.Mathlib.Omega.{arith}
 use lib.Dec.{eqb, ltb, lit<}
-use lib.ListN.{getD}
-use borrow.Author.Tests.{le-ltb}
-use Rattle.laws.proofs.Table.{getD-table}
-use Rattle.point_darts.specs.Dart.{mark, dart, beside, far, turned}
+use lib.ListN.{getD, length}
+use Rattle.point_darts.specs.Dart.{mark, points, dart, beside, turned}
 use Rattle.point_darts.specs.Point.{half, has}
 use Rattle.point_rules.specs.Turn.{turn, turnOf}
+use Rattle.point_darts.proofs.Back.{beside-le}
 use Rattle.point_darts.proofs.Darts.{point-dart, direction-dart, turned-below, far-dart}
 use Rattle.paper.specs.Joining.{at}
 use Rattle.table_entries.specs.Pointed.{fourAt, pointed}
+use Rattle.table_entries.proofs.Entries.{at-in}
 use Rattle.table_entries.proofs.Passed.{pointed-is}
-use Rattle.level_lines.specs.Line.{lined, onward, turning, entryOf}
+use Rattle.level_lines.specs.Line.{lined, onward, entryOf}
 
 -- Turning.
 cond-le : (b : Bool) (x y : ℕ) → x ≤ 4 → y ≤ 4 → cond b x y ≤ 4
@@ -35,27 +35,9 @@ turn-le m k =
     (cond-le (has m (turned k 0)) _ _ (turned-le k 0)
     (cond-le (has m (turned k 3)) _ _ (turned-le k 3) (cond-le (has m (turned k 2)) _ _ (turned-le k 2) (omega arith))))
 
-turnOf-le : (m k : ℕ) → turnOf m k ≤ 4
+pub turnOf-le : (m k : ℕ) → turnOf m k ≤ 4
 unfolding turnOf
 turnOf-le m k = cond-le (ltb m 16 && ltb k 4) (turn m k) 4 (turn-le m k) (omega arith)
-
-turning-at : (m k : ℕ) → m < 16 → k < 4 → getD turning (4 * m + k) 0 ≡ turnOf m k
-unfolding turning
-turning-at m k a b =
-    let p : (4 * m + k) / 4 ≡ m = omega arith in
-    let q : (4 * m + k) % 4 ≡ k = omega arith in
-    getD-table 64 (λ i. turnOf (i / 4) (i % 4)) (4 * m + k) 0 (omega arith) ∙ ap₂ turnOf p q
-
-module _ (t : List ℕ) (e : t ≡ turning) (m far k : ℕ) where
-  pub turning-le : m < 16 → k < 4 → getD t (4 * m + k) 0 ≤ 4
-  turning-le a b = rw (e, turning-at m k a b) (turnOf-le m k)
-
-  pub turn-found : m < 16 → k < 4 → dart far (getD t (4 * m + k) 0) ≡ dart far (turnOf m k)
-  turn-found a b = rw (e, turning-at m k a b)
-
-pub turn-none : (m far k : ℕ) → 15 < m → dart far 4 ≡ dart far (turnOf m k)
-unfolding turnOf
-turn-none m far k b = rw (le-ltb m 16 b)
 
 -- The entries at the darts of a point.
 module _ (m : List ℕ) (p : ℕ) where
@@ -82,8 +64,27 @@ module _ (m : List ℕ) (p : ℕ) where
       (entry-dart f 2 z c (eqb (l / 2 / 2 % 2) 1) (lit< tt) (rw q refl) ec ez)
       (entry-dart f 3 n d (eqb (l / 2 / 2 / 2 % 2) 1) (lit< tt) (rw q refl) ed en)
 
--- next at the darts of a point
-pub onward-dart : (w p : ℕ) (m : List ℕ) (k q r : ℕ) → k < 4 → q ≡ beside w p k → r ≡ dart q (turnOf (at m q) k)
+-- the darts that leave the points beside a point have numbers
+pub beside-fit : (w p a b c d : ℕ) → dart p 3 + 4 * (w + 2) < mark
+    → (a ≡ beside w p 0) × (b ≡ beside w p 1) × (c ≡ beside w p 2) × (d ≡ beside w p 3)
+    → (a < 16383) × (b < 16383) × (c < 16383) × (d < 16383)
+unfolding mark dart
+beside-fit w p a b c d l e = (fits 0 a (e .0), fits 1 b (e .1), fits 2 c (e .2), fits 3 d (e .3))
+  where
+    fits : (k q : ℕ) → q ≡ beside w p k → q < 16383
+    fits k q e = omega (arith, l, e, beside-le w p k)
+
+-- next at the darts of a point, where q is the point that the dart leads to, and the lines there are l
+pub onward-dart : (w p : ℕ) (m : List ℕ) (k q l r : ℕ) → k < 4 → q ≡ beside w p k → l ≡ at m q → r ≡ dart q (turnOf l k)
     → r ≡ onward w m (dart p k)
 unfolding onward
-onward-dart w p m k q r b e f = f ∙ rw (far-dart w p k b, direction-dart p k b, e)
+onward-dart w p m k q l r b e g f = f ∙ rw (far-dart w p k b, direction-dart p k b, ← e, g)
+
+-- the lines at a point in the table
+pub lines-in : (m : List ℕ) (q i : ℕ) → q ≡ i → i < length m → getD m i 0 ≡ at m q
+lines-in m q i e b = rw e (at-in m i b)
+
+-- a row of points is no more than all points
+pub row-le : (w h n : ℕ) → n ≡ points w h → w + 1 ≤ n
+unfolding points
+row-le w h n e = let l : 1 ≤ h + 1 = omega arith in omega (arith, mul-le-mul-left (w + 1) l)

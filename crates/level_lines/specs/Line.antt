@@ -1,14 +1,12 @@
 -- The tables of a level whose points are all kept, levels 0 and 1, from a table m of masks (the paper, "The four levels").
 --   lined m d       == the masks have the line of dart d
 --   onward w m d    == the dart that follows dart d: at its far point the first line that the masks have
---   turning         == the table of turns
 --   nexts w h m     == the table of next; the mark where the masks have no line
 --   others w h m    == the table of other, likewise
 --   entryOf m f d   == the entry of dart d in such a table of the values of f
 use mathlib.Core.Bool.{Bool, cond}
 use mathlib.Core.List.{List}
-use Prim.Native.Nat.{ℕ, _/_, _%_}
-use Rattle.laws.specs.Table.{table}
+use Prim.Native.Nat.{ℕ}
 use Rattle.point_darts.specs.Dart.{mark, dart, point, direction, far, reversal}
 use Rattle.point_darts.specs.Point.{has}
 use Rattle.point_rules.specs.Turn.{turnOf}
@@ -26,10 +24,6 @@ nexts w h m = marked w h (lined m) (onward w m)
 
 unfoldable pub others : ℕ → ℕ → List ℕ → List ℕ
 others w h m = marked w h (lined m) (reversal w)
-
--- the table of turns, at 4 times the mask plus the heading
-unfoldable pub turning : List ℕ
-turning = table 64 (λ i. turnOf (i / 4) (i % 4))
 
 -- the entry of a dart: that of f where the masks have its line, else the mark
 unfoldable pub entryOf : List ℕ → (ℕ → ℕ) → ℕ → ℕ

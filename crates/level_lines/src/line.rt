@@ -5,34 +5,20 @@ use point_rules::turn;
 use table_entries::entry;
 ghost use mathlib.Core.Path.{_≡_};
 ghost use mathlib.Core.Bool.{true, cond};
-ghost use Prim.Native.Nat.{ℕ, _+_, _*_, _<_};
+ghost use Prim.Native.Nat.{ℕ, _+_, _*_, _≤_, _<_};
 ghost use lib.Dec.{eqb};
 ghost use lib.ListN.{length};
 ghost use Rattle.sheet_size.specs.Size.{within};
 ghost use Rattle.point_darts.specs.Dart.{mark, points, slots, dart, reversal};
 ghost use Rattle.point_rules.specs.Turn.{turnOf};
-ghost use Rattle.paper.specs.Joining.{at};
 ghost use Rattle.table_entries.specs.Pointed.{pointed};
-ghost use Rattle.level_lines.specs.Line.{onward, nexts, others, entryOf, turning};
+ghost use Rattle.level_lines.specs.Line.{onward, nexts, others, entryOf};
 
 // A value where a line is present, that is, its bit is 1; else the mark.
 fn where_present(bit: u16, value: u16) -> u16
     ensures { λ r. ⌜ r ≡ cond (eqb bit 1) value mark ⌝ }
 {
     if bit == 1 { value } else { dart::MARK }
-}
-
-// The table of turns: the direction of the next line, at 4 times the mask of present lines plus the heading.
-fn turns() -> [u16; 64]
-    ensures { λ r. ⌜ r ≡ turning ⌝ }
-{
-    let mut turns = [0u16; 64];
-    let mut i: u16 = 0;
-    while i < 64 {
-        turns[i as usize] = turn::next_line(i / 4, i % 4).direction;
-        i += 1;
-    }
-    turns
 }
 
 // Sets the entries of the four darts that leave a point: these where the masks have the line, else the mark. The entries are
@@ -55,41 +41,74 @@ pub fn put_present(masks: &[u16], table: &mut [u16], p: u16, entries: Four)
     entry::put_four(table, p, east, south, west, north);
 }
 
-// The dart that follows a line which leads to a point in a direction.
-fn follow(turns: &[u16; 64], masks: &[u16], far: u16, direction: u16) -> u16
-    requires { ⌜ (now turns ≡ turning) × (far < 16383) × (direction < 4) ⌝ }
-    ensures { λ r. ⌜ r ≡ dart far (turnOf (at (now (masks .entry)) far) direction) ⌝ }
+// The dart that follows a line which leads in a direction to a point with these lines.
+fn follow(far: u16, lines: u16, direction: u16) -> u16
+    requires { ⌜ far < 16383 ⌝ }
+    ensures { λ r. ⌜ r ≡ dart far (turnOf lines direction) ⌝ }
 {
-    let lines = entry::get(masks, far);
-    if 15 < lines {
-        return Dart::leaving(far, turn::NONE).number;
+    Dart::leaving(far, turn::next_line(lines, direction).direction).number
+}
+
+// The darts that follow the four which leave a point, from the points that they lead to and the lines there.
+fn follow_four(far: Four, lines: Four) -> Four
+    requires { ⌜ (far .east < 16383) × (far .south < 16383) × (far .west < 16383) × (far .north < 16383) ⌝ }
+    ensures { λ r. ⌜
+        (r .east ≡ dart (far .east) (turnOf (lines .east) 0)) × (r .south ≡ dart (far .south) (turnOf (lines .south) 1)) ×
+        (r .west ≡ dart (far .west) (turnOf (lines .west) 2)) × (r .north ≡ dart (far .north) (turnOf (lines .north) 3))
+        ⌝ }
+{
+    Four {
+        east: follow(far.east, lines.east, Dart::EAST),
+        south: follow(far.south, lines.south, Dart::SOUTH),
+        west: follow(far.west, lines.west, Dart::WEST),
+        north: follow(far.north, lines.north, Dart::NORTH),
     }
-    let onward = turns[(4 * lines + direction) as usize];
-    Dart::leaving(far, onward).number
 }
 
 // Next of the four darts that leave a point.
-fn next_at(width: u16, turns: &[u16; 64], masks: &[u16], next: &mut [u16], p: u16)
-    requires { ⌜
-        (now turns ≡ turning) × (p < length (now masks)) × (dart p 3 + 4 * (width + 2) < mark) × (dart p 3 < length (now next))
-        ⌝ }
+fn next_at(width: u16, masks: &[u16], next: &mut [u16], p: u16)
+    requires { ⌜ (p < length (now masks)) × (dart p 3 + 4 * (width + 2) < mark) × (dart p 3 < length (now next)) ⌝ }
     ensures { λ _. ⌜
         now (next .exit) ≡
         pointed (entryOf (now (masks .entry)) (onward width (now (masks .entry)))) p (now (next .entry))
         ⌝ }
 {
     let far = dart::besides(p, width);
-    let onward = Four {
-        east: follow(turns, masks, far.east, Dart::EAST),
-        south: follow(turns, masks, far.south, Dart::SOUTH),
-        west: follow(turns, masks, far.west, Dart::WEST),
-        north: follow(turns, masks, far.north, Dart::NORTH),
+    let lines = Four {
+        east: entry::get(masks, far.east),
+        south: entry::get(masks, far.south),
+        west: entry::get(masks, far.west),
+        north: entry::get(masks, far.north),
     };
-    put_present(masks, next, p, onward);
+    put_present(masks, next, p, follow_four(far, lines));
+}
+
+// The same, of a point that is in neither the first row nor the last. No place is asked whether it is in the table, so the
+// compiler takes many points at a time.
+fn next_inside(width: u16, masks: &[u16], next: &mut [u16], p: u16)
+    requires { ⌜
+        (width + 1 ≤ p) × (p + (width + 1) < length (now masks)) × (dart p 3 + 4 * (width + 2) < mark) ×
+        (dart p 3 < length (now next))
+        ⌝ }
+    ensures { λ _. ⌜
+        now (next .exit) ≡
+        pointed (entryOf (now (masks .entry)) (onward width (now (masks .entry)))) p (now (next .entry))
+        ⌝ }
+{
+    let i = p as usize;
+    let row = (width + 1) as usize;
+    let far = dart::besides(p, width);
+    let lines = Four {
+        east: masks[i + 1],
+        south: masks[i + row],
+        west: masks[i - 1],
+        north: masks[i - row],
+    };
+    put_present(masks, next, p, follow_four(far, lines));
 }
 
 // The table of next of the lines that the masks have: at the far point the first line present of right turn, straight on,
-// left turn and back.
+// left turn and back. The first and the last row of points are passes of their own.
 pub fn nexts(width: u16, height: u16, masks: &[u16], next: &mut [u16])
     requires { ⌜
         (within width height ≡ true) × (length (now masks) ≡ points width height) ×
@@ -98,10 +117,18 @@ pub fn nexts(width: u16, height: u16, masks: &[u16], next: &mut [u16])
     ensures { λ _. ⌜ now (next .exit) ≡ nexts width height (now (masks .entry)) ⌝ }
 {
     let n = dart::points(width, height);
-    let turns = turns();
+    let row = width + 1;
     let mut p: u16 = 0;
+    while p < row {
+        next_at(width, masks, next, p);
+        p += 1;
+    }
+    while p < n - row {
+        next_inside(width, masks, next, p);
+        p += 1;
+    }
     while p < n {
-        next_at(width, &turns, masks, next, p);
+        next_at(width, masks, next, p);
         p += 1;
     }
 }

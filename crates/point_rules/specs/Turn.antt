@@ -2,7 +2,7 @@
 --   turn m k        == of the lines m, the first of right turn, straight on, left turn and back, coming in direction k; 4 for none
 --   without m t     == the lines of m that are not among the lines t
 --   becomes m t     == what a point with the lines m becomes when the lines t are taken
---   turns, becomesAt == the two rules over their whole tables: at 4 m + k and at 16 m + t
+--   becomesAt       == the rule of the point table over its places: at 16 m + t
 --   turnOf, becomesOf == the rules for any numbers: 4 where one is no mask or no direction
 --   pointTable      == the point table
 --   becoming m l    == what a point becomes that had the lines m and has the lines l left
@@ -35,9 +35,6 @@ kind m = cond (eqb m 0) 0 (cond (ltb 2 (degree m)) 3 (cond (eqb (inline m) 0) 2 
 
 unfoldable pub becomes : ℕ → ℕ → ℕ
 becomes m t = cond (impossible m t) 4 (kind (without m t))
-
-unfoldable pub turns : ℕ → ℕ
-turns i = turn (i / 4) (i % 4)
 
 unfoldable pub becomesAt : ℕ → ℕ
 becomesAt i = becomes (i / 16) (i % 16)

@@ -1,4 +1,6 @@
 ghost use mathlib.Core.Path.{_≡_};
+ghost use Prim.Native.Nat.{_<_};
+ghost use Rattle.point_darts.specs.Point.{has};
 ghost use Rattle.point_rules.specs.Turn.{turnOf, pointTable, kinding};
 
 // No direction: what next_line answers where no line is present.
@@ -10,74 +12,6 @@ pub const IN_LINE: u16 = 1;
 pub const CORNER: u16 = 2;
 
 pub const LARGE: u16 = 3;
-
-// The direction of the next line, at 4 times the mask of present lines plus the heading.
-const TURNS: [u16; 64] = [
-    4,
-    4,
-    4,
-    4,
-    0,
-    0,
-    0,
-    0,
-    1,
-    1,
-    1,
-    1,
-    1,
-    1,
-    1,
-    0,
-    2,
-    2,
-    2,
-    2,
-    0,
-    2,
-    2,
-    0,
-    1,
-    2,
-    2,
-    2,
-    1,
-    2,
-    2,
-    0,
-    3,
-    3,
-    3,
-    3,
-    0,
-    0,
-    3,
-    0,
-    1,
-    1,
-    3,
-    3,
-    1,
-    1,
-    3,
-    0,
-    3,
-    2,
-    3,
-    3,
-    0,
-    2,
-    3,
-    0,
-    1,
-    2,
-    3,
-    3,
-    1,
-    2,
-    3,
-    0,
-];
 
 // What a point becomes, at 16 times the mask of present lines plus the mask of taken ones: 0 gone, 1 two lines in line,
 // 2 a corner, 3 three or four lines, 4 cannot be.
@@ -345,6 +279,14 @@ pub struct NextLine {
     pub direction: u16,
 }
 
+// Whether a mask has the line in a direction.
+fn has(lines: u16, direction: u16) -> bool
+    requires { ⌜ direction < 4 ⌝ }
+    ensures { λ r. ⌜ r ≡ has lines direction ⌝ }
+{
+    (lines >> direction) % 2 == 1
+}
+
 // Of the lines present at a point, the first of right turn, straight on, left turn and back, for a heading; none where
 // no line is present, or a number is no mask or no heading.
 pub fn next_line(present: u16, heading: u16) -> NextLine
@@ -356,9 +298,22 @@ pub fn next_line(present: u16, heading: u16) -> NextLine
     if 3 < heading {
         return NextLine { direction: NONE };
     }
-    NextLine {
-        direction: TURNS[(4 * present + heading) as usize],
+    let right = (heading + 1) % 4;
+    if has(present, right) {
+        return NextLine { direction: right };
     }
+    if has(present, heading) {
+        return NextLine { direction: heading };
+    }
+    let left = (heading + 3) % 4;
+    if has(present, left) {
+        return NextLine { direction: left };
+    }
+    let back = (heading + 2) % 4;
+    if has(present, back) {
+        return NextLine { direction: back };
+    }
+    NextLine { direction: NONE }
 }
 
 // The point table. A constant table is built anew where it is named, so who reads it at many points names it once.

@@ -57,6 +57,10 @@ module _ (w h : ℕ) (f : ℕ → ℕ) where
         let z : dart p 4 ≡ dart (p + 1) 0 = unfold dart in omega arith in
         rw i (rw z at (dart-more 3 _ b (omega arith) q))
 
+    -- the same, told from the table as it is
+    pub passed-so-far : Passed w h f p t t
+    passed-so-far = record { done = r .done; rest = λ k b. refl; long = r .long }
+
     -- all points
     pub passed-all : n ≤ p → t ≡ table (slots w h) f
     unfolding slots dart

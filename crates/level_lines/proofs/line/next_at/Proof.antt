@@ -1,9 +1,8 @@
 use native.Mathlib.Omega.{arith}
 use lib.Dec.{lit<}
 use Rattle.point_darts.specs.Dart.{mark, dart}
-use Rattle.point_darts.proofs.Back.{beside-le}
 use Rattle.level_lines.specs.Line.{onward}
-use Rattle.level_lines.proofs.Pointing.{onward-dart}
+use Rattle.level_lines.proofs.Pointing.{beside-fit, onward-dart}
 use borrow.Author.Needs.{needs}
 use Rattle.level_lines.proofs.line.next_at.Statement.{statement}
 use Rattle.level_lines.proofs.line.next_at.Tie as tie
@@ -12,33 +11,22 @@ besides-requires : tie.Need-besides-requires
 unfolding mark dart
 besides-requires c κs = omega arith
 
-follow-requires : tie.Need-follow-requires
-unfolding mark dart
-follow-requires c κs =
-    let s = c .before .before .before in
-    let f = c .besides .ensures .0 in
-    (s .pre .0, omega (arith, s .pre .2, f, beside-le (s .args .width) (s .args .p) 0), lit< tt)
+get-requires : tie.Need-get-requires
+get-requires c κs = search needs
 
-follow-requires-2 : tie.Need-follow-requires-2
-unfolding mark dart
-follow-requires-2 c κs =
-    let s = c .before .before .before .before in
-    let f = c .before .besides .ensures .1 in
-    (s .pre .0, omega (arith, s .pre .2, f, beside-le (s .args .width) (s .args .p) 1), lit< tt)
+get-requires-2 : tie.Need-get-requires-2
+get-requires-2 c κs = search needs
 
-follow-requires-3 : tie.Need-follow-requires-3
-unfolding mark dart
-follow-requires-3 c κs =
-    let s = c .before .before .before .before .before in
-    let f = c .before .before .besides .ensures .2 in
-    (s .pre .0, omega (arith, s .pre .2, f, beside-le (s .args .width) (s .args .p) 2), lit< tt)
+get-requires-3 : tie.Need-get-requires-3
+get-requires-3 c κs = search needs
 
-follow-requires-4 : tie.Need-follow-requires-4
-unfolding mark dart
-follow-requires-4 c κs =
-    let s = c .before .before .before .before .before .before in
-    let f = c .before .before .before .besides .ensures .3 in
-    (s .pre .0, omega (arith, s .pre .2, f, beside-le (s .args .width) (s .args .p) 3), lit< tt)
+get-requires-4 : tie.Need-get-requires-4
+get-requires-4 c κs = search needs
+
+follow-four-requires : tie.Need-follow-four-requires
+follow-four-requires c κs =
+    let b = c .before .before .before .before .before in
+    beside-fit _ _ _ _ _ _ (b .before .before .before .pre .1) (b .besides .ensures)
 
 put-present-requires : tie.Need-put-present-requires
 put-present-requires c κs = search needs
@@ -48,25 +36,28 @@ same-length c = search needs
 
 returns : tie.Need-returns
 returns c =
-    let f = c .before .before .before .before in
-    let b = f .before .before .before .before in
+    let f = c .before .before .before in
+    let g = f .before .before in
+    let b = g .before .before .before .before in
     let q = b .besides .ensures in
     let a = b .before .before .before .args in
+    let r = f .follow-four .ensures in
     c .before .before .put-present .ensures (onward (a .width) _)
-    (onward-dart (a .width) (a .p) _ 0 _ _ (lit< tt) (q .0) (f .before .before .before .follow .ensures))
-    (onward-dart (a .width) (a .p) _ 1 _ _ (lit< tt) (q .1) (f .before .before .follow2 .ensures))
-    (onward-dart (a .width) (a .p) _ 2 _ _ (lit< tt) (q .2) (f .before .follow3 .ensures))
-    (onward-dart (a .width) (a .p) _ 3 _ _ (lit< tt) (q .3) (f .follow4 .ensures))
+    (onward-dart (a .width) (a .p) _ 0 _ _ _ (lit< tt) (q .0) (g .before .before .before .get .ensures) (r .0))
+    (onward-dart (a .width) (a .p) _ 1 _ _ _ (lit< tt) (q .1) (g .before .before .get2 .ensures) (r .1))
+    (onward-dart (a .width) (a .p) _ 2 _ _ _ (lit< tt) (q .2) (g .before .get3 .ensures) (r .2))
+    (onward-dart (a .width) (a .p) _ 3 _ _ _ (lit< tt) (q .3) (g .get4 .ensures) (r .3))
 
 pub next-at-spec : {M : Type 1} → statement M
 next-at-spec =
     tie.close
     (tie.spec
     besides-requires
-    follow-requires
-    follow-requires-2
-    follow-requires-3
-    follow-requires-4
+    get-requires
+    get-requires-2
+    get-requires-3
+    get-requires-4
+    follow-four-requires
     put-present-requires
     same-length
     returns)

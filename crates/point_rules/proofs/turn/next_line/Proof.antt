@@ -1,14 +1,53 @@
-use mathlib.Core.Path.{refl}
-use Prim.Native.Nat.{suc-le-suc}
+use mathlib.Core.Path.{_≡_, refl, sym, _∙_}
+use mathlib.Core.Bool.{Bool, true, false, cond}
+use Prim.Native.Nat.{ℕ, _<_, suc-le-suc}
 use borrow.Author.Tests.{lt-ltb, le-ltb}
-use Rattle.laws.specs.Table.{table, listed}
 use Rattle.point_darts.specs.Dart.{turned}
-use Rattle.point_darts.specs.Point.{half, has}
-use Rattle.point_rules.specs.Turn.{turn, turnOf, turns}
-use Rattle.point_rules.proofs.Entry.{turn-entry}
+use Rattle.point_darts.specs.Point.{has}
+use Rattle.point_rules.specs.Turn.{turn, turnOf}
+use Rattle.point_darts.proofs.Darts.{turned-below, turned-none}
 use borrow.Author.Needs.{needs}
 use Rattle.point_rules.proofs.turn.next_line.Statement.{statement}
 use Rattle.point_rules.proofs.turn.next_line.Tie as tie
+
+-- The next line, by whether the mask has the line to the right, straight on, to the left and back.
+chosen : (m k : ℕ) → m < 16 → k < 4 → (r s l b : Bool)
+    → has m (turned k 1) ≡ r → has m k ≡ s → has m (turned k 3) ≡ l → has m (turned k 2) ≡ b
+    → cond r (turned k 1) (cond s k (cond l (turned k 3) (cond b (turned k 2) 4))) ≡ turnOf m k
+unfolding turnOf turn
+chosen m k p q r s l b er es el eb = rw (lt-ltb m 16 p, lt-ltb k 4 q, turned-none k q, er, es, el, eb)
+
+-- What the mask has, from the calls that ask it.
+module _ (c : tie.After-has) where
+  abbrev present : ℕ
+  present = c .before .before .before .args .present
+
+  abbrev heading : ℕ
+  heading = c .before .before .before .args .heading
+
+  present-below : present < 16
+  present-below = suc-le-suc (c .before .before .if1 .left)
+
+  heading-below : heading < 4
+  heading-below = suc-le-suc (c .before .if2 .left)
+
+  right : has present (turned heading 1) ≡ c .has .result
+  unfolding turned
+  right = sym (c .has .ensures)
+
+straight : (c : tie.After-has2)
+    → let h = c .before .before in has (present h) (heading h) ≡ c .has2 .result
+straight c = sym (c .has2 .ensures)
+
+left : (c : tie.After-has3)
+    → let h = c .before .before .before .before in has (present h) (turned (heading h) 3) ≡ c .has3 .result
+unfolding turned
+left c = sym (c .has3 .ensures)
+
+back : (c : tie.After-has4)
+    → let h = c .before .before .before .before .before .before in has (present h) (turned (heading h) 2) ≡ c .has4 .result
+unfolding turned
+back c = sym (c .has4 .ensures)
 
 returns : tie.Need-returns
 unfolding turnOf
@@ -18,25 +57,86 @@ returns-2 : tie.Need-returns-2
 unfolding turnOf
 returns-2 c = simp (lt-ltb _ 16 (suc-le-suc (c .before .if1 .left)), le-ltb _ 4 (c .if2 .taken))
 
-mul-t5 : tie.Need-mul-t5
-mul-t5 c = search needs
+add-right : tie.Need-add-right
+add-right c = search needs
 
-add-t6 : tie.Need-add-t6
-add-t6 c = search needs
-
-cast-t7 : tie.Need-cast-t7
-cast-t7 c = search needs
-
-mul-t8 : tie.Need-mul-t8
-mul-t8 c = search needs
-
-array-read-t11 : tie.Need-array-read-t11
-array-read-t11 c = search needs
+has-requires : tie.Need-has-requires
+unfolding turned
+has-requires c κs = turned-below _ 1
 
 returns-3 : tie.Need-returns-3
-unfolding turns turn turned half has table listed
-returns-3 c = turn-entry _ _ _ refl (suc-le-suc (c .before .if1 .left)) (suc-le-suc (c .if2 .left))
+unfolding turned
+returns-3 c =
+    let h = c .before in
+    chosen _ _ (present-below h) (heading-below h) true _ _ _ (right h ∙ c .if3 .taken) refl refl refl
+
+has-requires-2 : tie.Need-has-requires-2
+has-requires-2 c κs = heading-below (c .before)
+
+returns-4 : tie.Need-returns-4
+returns-4 c =
+    let s = c .before in
+    let h = s .before .before in
+    chosen _ _ (present-below h) (heading-below h) false true _ _
+    (right h ∙ s .before .if3 .left) (straight s ∙ c .if4 .taken) refl refl
+
+add-left : tie.Need-add-left
+add-left c = search needs
+
+has-requires-3 : tie.Need-has-requires-3
+unfolding turned
+has-requires-3 c κs = turned-below _ 3
+
+returns-5 : tie.Need-returns-5
+unfolding turned
+returns-5 c =
+    let l = c .before in
+    let s = l .before .before in
+    let h = s .before .before in
+    chosen _ _ (present-below h) (heading-below h) false false true _
+    (right h ∙ s .before .if3 .left) (straight s ∙ l .before .if4 .left) (left l ∙ c .if5 .taken) refl
+
+add-back : tie.Need-add-back
+add-back c = search needs
+
+has-requires-4 : tie.Need-has-requires-4
+unfolding turned
+has-requires-4 c κs = turned-below _ 2
+
+returns-6 : tie.Need-returns-6
+unfolding turned
+returns-6 c =
+    let b = c .before in
+    let l = b .before .before in
+    let s = l .before .before in
+    let h = s .before .before in
+    chosen _ _ (present-below h) (heading-below h) false false false true
+    (right h ∙ s .before .if3 .left) (straight s ∙ l .before .if4 .left) (left l ∙ b .before .if5 .left) (back b ∙ c .if6 .taken)
+
+returns-7 : tie.Need-returns-7
+returns-7 c =
+    let b = c .before in
+    let l = b .before .before in
+    let s = l .before .before in
+    let h = s .before .before in
+    chosen _ _ (present-below h) (heading-below h) false false false false
+    (right h ∙ s .before .if3 .left) (straight s ∙ l .before .if4 .left) (left l ∙ b .before .if5 .left) (back b ∙ c .if6 .left)
 
 pub next-line-spec : {M : Type 1} → statement M
 next-line-spec =
-    tie.close (tie.spec returns returns-2 mul-t5 add-t6 cast-t7 mul-t8 array-read-t11 returns-3)
+    tie.close
+    (tie.spec
+    returns
+    returns-2
+    add-right
+    has-requires
+    returns-3
+    has-requires-2
+    returns-4
+    add-left
+    has-requires-3
+    returns-5
+    add-back
+    has-requires-4
+    returns-6
+    returns-7)
