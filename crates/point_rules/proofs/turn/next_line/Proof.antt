@@ -103,24 +103,23 @@ has-requires-4 : tie.Need-has-requires-4
 unfolding turned
 has-requires-4 c κs = turned-below _ 2
 
+-- The last question, back or none.
+last : (b : tie.After-has4) (x : Bool) → b .has4 .result ≡ x
+    → let h = b .before .before .before .before .before .before in
+    cond x (turned (heading h) 2) 4 ≡ turnOf (present h) (heading h)
+last b x e =
+    let l = b .before .before in
+    let s = l .before .before in
+    let h = s .before .before in
+    chosen _ _ (present-below h) (heading-below h) false false false x
+    (right h ∙ s .before .if3 .left) (straight s ∙ l .before .if4 .left) (left l ∙ b .before .if5 .left) (back b ∙ e)
+
 returns-6 : tie.Need-returns-6
 unfolding turned
-returns-6 c =
-    let b = c .before in
-    let l = b .before .before in
-    let s = l .before .before in
-    let h = s .before .before in
-    chosen _ _ (present-below h) (heading-below h) false false false true
-    (right h ∙ s .before .if3 .left) (straight s ∙ l .before .if4 .left) (left l ∙ b .before .if5 .left) (back b ∙ c .if6 .taken)
+returns-6 c = last (c .before) true (c .if6 .taken)
 
 returns-7 : tie.Need-returns-7
-returns-7 c =
-    let b = c .before in
-    let l = b .before .before in
-    let s = l .before .before in
-    let h = s .before .before in
-    chosen _ _ (present-below h) (heading-below h) false false false false
-    (right h ∙ s .before .if3 .left) (straight s ∙ l .before .if4 .left) (left l ∙ b .before .if5 .left) (back b ∙ c .if6 .left)
+returns-7 c = last (c .before) false (c .if6 .left)
 
 pub next-line-spec : {M : Type 1} → statement M
 next-line-spec =
