@@ -95,14 +95,18 @@ fn next_inside(width: u16, masks: &[u16], next: &mut [u16], p: u16)
         pointed (entryOf (now (masks .entry)) (onward width (now (masks .entry)))) p (now (next .entry))
         ⌝ }
 {
+    let far = dart::besides(p, width);
     let i = p as usize;
     let row = (width + 1) as usize;
-    let far = dart::besides(p, width);
+    let east = masks[i + 1];
+    let south = masks[i + row];
+    let west = masks[i - 1];
+    let north = masks[i - row];
     let lines = Four {
-        east: masks[i + 1],
-        south: masks[i + row],
-        west: masks[i - 1],
-        north: masks[i - row],
+        east,
+        south,
+        west,
+        north,
     };
     put_present(masks, next, p, follow_four(far, lines));
 }

@@ -15,7 +15,8 @@ follow-requires-4 : tie.Need-follow-requires-4
 follow-requires-4 c κs = search needs
 
 returns : tie.Need-returns
-returns c = search needs
+returns c =
+    (c .before .before .before .follow .ensures, c .before .before .follow2 .ensures, c .before .follow3 .ensures, c .follow4 .ensures)
 
 pub follow-four-spec : {M : Type 1} → statement M
 follow-four-spec =

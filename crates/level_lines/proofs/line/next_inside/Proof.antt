@@ -7,51 +7,51 @@ use borrow.Author.Needs.{needs}
 use Rattle.level_lines.proofs.line.next_inside.Statement.{statement}
 use Rattle.level_lines.proofs.line.next_inside.Tie as tie
 
+besides-requires : tie.Need-besides-requires
+unfolding mark dart
+besides-requires c κs = omega arith
+
 add-row : tie.Need-add-row
 add-row c = search needs
 
 cast-row : tie.Need-cast-row
 cast-row c = search needs
 
-besides-requires : tie.Need-besides-requires
-unfolding mark dart
-besides-requires c κs = omega arith
+add-east : tie.Need-add-east
+add-east c = search needs
 
-add-t10 : tie.Need-add-t10
-add-t10 c = search needs
+mul-east : tie.Need-mul-east
+mul-east c = search needs
 
-mul-t11 : tie.Need-mul-t11
-mul-t11 c = search needs
+shared-slice-read-east : tie.Need-shared-slice-read-east
+shared-slice-read-east c = search needs
 
-shared-slice-read-t9 : tie.Need-shared-slice-read-t9
-shared-slice-read-t9 c = search needs
+add-south : tie.Need-add-south
+add-south c = search needs
 
-add-t13 : tie.Need-add-t13
-add-t13 c = search needs
+mul-south : tie.Need-mul-south
+mul-south c = search needs
 
-mul-t14 : tie.Need-mul-t14
-mul-t14 c = search needs
+shared-slice-read-south : tie.Need-shared-slice-read-south
+shared-slice-read-south c = search needs
 
-shared-slice-read-t16 : tie.Need-shared-slice-read-t16
-shared-slice-read-t16 c = search needs
+sub-west : tie.Need-sub-west
+sub-west c = search needs
 
-sub-t17 : tie.Need-sub-t17
-sub-t17 c = search needs
+mul-west : tie.Need-mul-west
+mul-west c = search needs
 
-mul-t18 : tie.Need-mul-t18
-mul-t18 c = search needs
+shared-slice-read-west : tie.Need-shared-slice-read-west
+shared-slice-read-west c = search needs
 
-shared-slice-read-t20 : tie.Need-shared-slice-read-t20
-shared-slice-read-t20 c = search needs
+sub-north : tie.Need-sub-north
+sub-north c = search needs
 
-sub-t21 : tie.Need-sub-t21
-sub-t21 c = search needs
+mul-north : tie.Need-mul-north
+mul-north c = search needs
 
-mul-t22 : tie.Need-mul-t22
-mul-t22 c = search needs
-
-shared-slice-read-t24 : tie.Need-shared-slice-read-t24
-shared-slice-read-t24 c = search needs
+shared-slice-read-north : tie.Need-shared-slice-read-north
+shared-slice-read-north c = search needs
 
 follow-four-requires : tie.Need-follow-four-requires
 follow-four-requires c κs =
@@ -84,21 +84,21 @@ pub next-inside-spec : {M : Type 1} → statement M
 next-inside-spec =
     tie.close
     (tie.spec
+    besides-requires
     add-row
     cast-row
-    besides-requires
-    add-t10
-    mul-t11
-    shared-slice-read-t9
-    add-t13
-    mul-t14
-    shared-slice-read-t16
-    sub-t17
-    mul-t18
-    shared-slice-read-t20
-    sub-t21
-    mul-t22
-    shared-slice-read-t24
+    add-east
+    mul-east
+    shared-slice-read-east
+    add-south
+    mul-south
+    shared-slice-read-south
+    sub-west
+    mul-west
+    shared-slice-read-west
+    sub-north
+    mul-north
+    shared-slice-read-north
     follow-four-requires
     put-present-requires
     same-length
