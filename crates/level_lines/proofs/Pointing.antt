@@ -5,11 +5,10 @@ use mathlib.Core.Path.{_≡_, refl, _∙_}
 use mathlib.Core.Bool.{Bool, true, false, cond, _&&_}
 use mathlib.Core.List.{List}
 use Prim.Native.Nat.{ℕ, _+_, _*_, _/_, _%_, _≤_, _<_}
-use native.Mathlib.Nat.{mul-le-mul-left}
 use native.Mathlib.Omega.{arith}
 use lib.Dec.{eqb, ltb, lit<}
 use lib.ListN.{getD, length}
-use Rattle.point_darts.specs.Dart.{mark, points, dart, beside, turned}
+use Rattle.point_darts.specs.Dart.{mark, dart, beside, turned}
 use Rattle.point_darts.specs.Point.{half, has}
 use Rattle.point_rules.specs.Turn.{turn, turnOf}
 use Rattle.point_darts.proofs.Back.{beside-le}
@@ -54,8 +53,8 @@ module _ (m : List ℕ) (p : ℕ) where
   pub present-is : (t u : List ℕ) (l a b c d x y z n : ℕ) → l ≡ at m p
       → a ≡ cond (eqb (l % 2) 1) x mark → b ≡ cond (eqb (l / 2 % 2) 1) y mark
       → c ≡ cond (eqb (l / 2 / 2 % 2) 1) z mark → d ≡ cond (eqb (l / 2 / 2 / 2 % 2) 1) n mark
-      → u ≡ fourAt t p a b c d → (f : ℕ → ℕ) → x ≡ f (dart p 0) → y ≡ f (dart p 1) → z ≡ f (dart p 2) → n ≡ f (dart p 3)
-      → u ≡ pointed (entryOf m f) p t
+      → u ≡ fourAt t p a b c d → (f : ℕ → ℕ) → x ≡ f (dart p 0) → y ≡ f (dart p 1) → z ≡ f (dart p 2)
+      → n ≡ f (dart p 3) → u ≡ pointed (entryOf m f) p t
   unfolding has half
   present-is t u l a b c d x y z n q ea eb ec ed e f ex ey ez en =
       e ∙ pointed-is (entryOf m f) t p a b c d
@@ -83,8 +82,3 @@ onward-dart w p m k q l r b e g f = f ∙ rw (far-dart w p k b, direction-dart p
 -- the lines at a point in the table
 pub lines-in : (m : List ℕ) (q i : ℕ) → q ≡ i → i < length m → getD m i 0 ≡ at m q
 lines-in m q i e b = rw e (at-in m i b)
-
--- a row of points is no more than all points
-pub row-le : (w h n : ℕ) → n ≡ points w h → w + 1 ≤ n
-unfolding points
-row-le w h n e = let l : 1 ≤ h + 1 = omega arith in omega (arith, mul-le-mul-left (w + 1) l)

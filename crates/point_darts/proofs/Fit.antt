@@ -11,6 +11,11 @@ use Rattle.sheet_size.proofs.Limit.{within-limits}
 product-le : (a b m n : ℕ) → a ≤ m → b ≤ n → a * b ≤ m * n
 product-le a b m n p q = le-trans (mul-le-mul-right b p) (mul-le-mul-left m q)
 
+-- a row of points is no more than all points
+pub row-fit : (w h : ℕ) → w + 1 ≤ points w h
+unfolding points
+row-fit w h = let l : 1 ≤ h + 1 = omega arith in omega (arith, mul-le-mul-left (w + 1) l)
+
 module _ (w h : ℕ) (e : within w h ≡ true) where
   pub cells-fit : w * h ≤ 72 * 72
   cells-fit = let l = within-limits w h e in product-le w h 72 72 (l .widest) (l .highest)

@@ -4,7 +4,7 @@ ghost use Rattle.point_darts.specs.Point.{has};
 ghost use Rattle.point_rules.specs.Turn.{turnOf, pointTable, kinding};
 
 // No direction: what next_line answers where no line is present.
-pub const NONE: u16 = 4;
+const NONE: u16 = 4;
 
 // What the point table says of two lines in line, of a corner, and of three or four lines.
 pub const IN_LINE: u16 = 1;

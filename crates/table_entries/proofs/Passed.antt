@@ -34,6 +34,10 @@ module _ (w h : ℕ) (f : ℕ → ℕ) where
   unfolding dart
   passed-none t e = filled-none (slots w h) f t e
 
+  -- the same, told from the table as it is
+  pub passed-so-far : (p : ℕ) (o t : List ℕ) → Passed w h f p o t → Passed w h f p t t
+  passed-so-far p o t r = record { done = r .done; rest = λ k b. refl; long = r .long }
+
   -- of n points
   module _ (n : ℕ) (e : n ≡ points w h) (p : ℕ) (o t : List ℕ) (r : Passed w h f p o t) where
     -- the darts of a point are in the table
@@ -56,10 +60,6 @@ module _ (w h : ℕ) (f : ℕ → ℕ) where
         let q = dart-more 2 _ b (omega arith) (dart-more 1 _ b (omega arith) (dart-more 0 t b (omega arith) r)) in
         let z : dart p 4 ≡ dart (p + 1) 0 = unfold dart in omega arith in
         rw i (rw z at (dart-more 3 _ b (omega arith) q))
-
-    -- the same, told from the table as it is
-    pub passed-so-far : Passed w h f p t t
-    passed-so-far = record { done = r .done; rest = λ k b. refl; long = r .long }
 
     -- all points
     pub passed-all : n ≤ p → t ≡ table (slots w h) f

@@ -5,10 +5,9 @@ use lib.ListN.{length}
 use denote.Ref.{now}
 use Rattle.point_darts.specs.Dart.{mark, dart}
 use Rattle.paper.specs.Level.{marked}
-use Rattle.point_darts.proofs.Fit.{point-fits}
+use Rattle.point_darts.proofs.Fit.{row-fit, point-fits}
 use Rattle.table_entries.proofs.Passed.{Passed, passed-none, passed-room, passed-more, passed-so-far, passed-all}
 use Rattle.level_lines.specs.Line.{onward, entryOf, nexts}
-use Rattle.level_lines.proofs.Pointing.{row-le}
 use Rattle.level_lines.proofs.line.nexts.Statement.{statement}
 use Rattle.level_lines.proofs.line.nexts.Tie as tie
 
@@ -36,7 +35,7 @@ module _ (a : tie.After-points Inv-loop μ-loop Inv-loop2 μ-loop2 Inv-loop3 μ-
   start = a .before .before .before
 
   row-in : start .args .width + 1 ≤ a .points .result
-  row-in = row-le _ _ _ (a .points .ensures)
+  row-in = omega (arith, a .points .ensures, row-fit (start .args .width) (start .args .height))
 
   point-in : (p : ℕ) → p < a .points .result → p < length (now (start .args .masks))
   point-in p b = omega (arith, start .pre .1, a .points .ensures)
@@ -45,7 +44,8 @@ module _ (a : tie.After-points Inv-loop μ-loop Inv-loop2 μ-loop2 Inv-loop3 μ-
   fits p b = point-fits _ _ (start .pre .0) _ (a .points .ensures) p b
 
 -- The point at hand is one of the sheet: in the first row, and between the first and the last.
-first-row : (l : tie.In-loop Inv-loop μ-loop Inv-loop2 μ-loop2 Inv-loop3 μ-loop3) → l .before .loop .p < l .before .before .points .result
+first-row : (l : tie.In-loop Inv-loop μ-loop Inv-loop2 μ-loop2 Inv-loop3 μ-loop3)
+    → l .before .loop .p < l .before .before .points .result
 first-row l = omega (arith, row-in (l .before .before), l .loop-test .taken)
 
 module _ (l : tie.In-loop2 Inv-loop μ-loop Inv-loop2 μ-loop2 Inv-loop3 μ-loop3) where
@@ -87,9 +87,7 @@ loop-again c =
     (c .before .before .next-at .ensures)
 
 loop2-holds : tie.Need-loop2-holds Inv-loop μ-loop Inv-loop2 μ-loop2 Inv-loop3 μ-loop3
-loop2-holds c =
-    let a = c .before .before in
-    (passed-so-far _ _ _ _ (a .points .ensures) _ _ _ (c .before .loop .inv), c .loop-test .left)
+loop2-holds c = (passed-so-far _ _ _ _ _ _ (c .before .loop .inv), c .loop-test .left)
 
 sub-loop2 : tie.Need-sub-loop2 Inv-loop μ-loop Inv-loop2 μ-loop2 Inv-loop3 μ-loop3
 sub-loop2 c = row-in (c .before .before .before)
@@ -119,9 +117,7 @@ loop2-again c =
     )
 
 loop3-holds : tie.Need-loop3-holds Inv-loop μ-loop Inv-loop2 μ-loop2 Inv-loop3 μ-loop3
-loop3-holds c =
-    let a = c .before .before .before .before in
-    passed-so-far _ _ _ _ (a .points .ensures) _ _ _ (c .before .loop2 .inv .0)
+loop3-holds c = passed-so-far _ _ _ _ _ _ (c .before .loop2 .inv .0)
 
 next-at-requires-2 : tie.Need-next-at-requires-2 Inv-loop μ-loop Inv-loop2 μ-loop2 Inv-loop3 μ-loop3
 next-at-requires-2 c κs =

@@ -11,11 +11,11 @@ use Rattle.point_rules.proofs.turn.next_line.Statement.{statement}
 use Rattle.point_rules.proofs.turn.next_line.Tie as tie
 
 -- The next line, by whether the mask has the line to the right, straight on, to the left and back.
-chosen : (m k : ℕ) → m < 16 → k < 4 → (r s l b : Bool)
+by-tests : (m k : ℕ) → m < 16 → k < 4 → (r s l b : Bool)
     → has m (turned k 1) ≡ r → has m k ≡ s → has m (turned k 3) ≡ l → has m (turned k 2) ≡ b
     → cond r (turned k 1) (cond s k (cond l (turned k 3) (cond b (turned k 2) 4))) ≡ turnOf m k
 unfolding turnOf turn
-chosen m k p q r s l b er es el eb = rw (lt-ltb m 16 p, lt-ltb k 4 q, turned-none k q, er, es, el, eb)
+by-tests m k p q r s l b er es el eb = rw (lt-ltb m 16 p, lt-ltb k 4 q, turned-none k q, er, es, el, eb)
 
 -- What the mask has, from the calls that ask it.
 module _ (c : tie.After-has) where
@@ -68,7 +68,7 @@ returns-3 : tie.Need-returns-3
 unfolding turned
 returns-3 c =
     let h = c .before in
-    chosen _ _ (present-below h) (heading-below h) true _ _ _ (right h ∙ c .if3 .taken) refl refl refl
+    by-tests _ _ (present-below h) (heading-below h) true _ _ _ (right h ∙ c .if3 .taken) refl refl refl
 
 has-requires-2 : tie.Need-has-requires-2
 has-requires-2 c κs = heading-below (c .before)
@@ -77,7 +77,7 @@ returns-4 : tie.Need-returns-4
 returns-4 c =
     let s = c .before in
     let h = s .before .before in
-    chosen _ _ (present-below h) (heading-below h) false true _ _
+    by-tests _ _ (present-below h) (heading-below h) false true _ _
     (right h ∙ s .before .if3 .left) (straight s ∙ c .if4 .taken) refl refl
 
 add-left : tie.Need-add-left
@@ -93,7 +93,7 @@ returns-5 c =
     let l = c .before in
     let s = l .before .before in
     let h = s .before .before in
-    chosen _ _ (present-below h) (heading-below h) false false true _
+    by-tests _ _ (present-below h) (heading-below h) false false true _
     (right h ∙ s .before .if3 .left) (straight s ∙ l .before .if4 .left) (left l ∙ c .if5 .taken) refl
 
 add-back : tie.Need-add-back
@@ -111,7 +111,7 @@ last b x e =
     let l = b .before .before in
     let s = l .before .before in
     let h = s .before .before in
-    chosen _ _ (present-below h) (heading-below h) false false false x
+    by-tests _ _ (present-below h) (heading-below h) false false false x
     (right h ∙ s .before .if3 .left) (straight s ∙ l .before .if4 .left) (left l ∙ b .before .if5 .left) (back b ∙ e)
 
 returns-6 : tie.Need-returns-6
