@@ -26,11 +26,11 @@ use Rattle.level_lines.specs.Mask.{masked}
 use Rattle.level_lines.specs.Line.{nexts}
 use Rattle.level_lines.specs.Side.{sides}
 use Rattle.level_curves.specs.Keep.{keeps}
-use Rattle.level_curves.specs.Link.{alongNext, alongOther}
+use Rattle.level_curves.specs.Link.{TwoWay, alongNext, alongOther}
 use Rattle.table_lengths.specs.Given.{tables}
 use Rattle.drawing.specs.Parts.{Lined, Kept, Curved, roundOf, masksOf, linesAgree, curvesAgree}
 use Rattle.region_names.specs.Frame.{surround}
-use Rattle.drawing.proofs.Whole.{line-next, line-side, curve-next, curve-other, parents-whole}
+use Rattle.drawing.proofs.Whole.{line-next, line-side, curve-runs, curve-next, curve-other, parents-whole}
 
 pub names-part : (w h : ℕ) → w * h + 1 ≤ slots w h
 names-part w h = omega (arith, cells-slots w h)
@@ -74,48 +74,75 @@ module _ (w h : ℕ) (x s y o p m a c v u : List ℕ) (g : Kept w h s m a c) (k 
       e ∙ rw (k .next, k .other, kept-points) in
       rw (← q, not-false t n) (z ∙ rw (i, j, g .tops))
 
--- Both parts together.
-module _ (w h : ℕ) (t : Tables) (e : within w h ≡ true) where
+-- Level 1 agrees with what is drawn from the labels that the sides tell.
+module _ (w h : ℕ) (x s : List ℕ) where
   abbrev n : List ℕ
-  n = names w h (recovered w h (t .side1))
+  n = names w h (recovered w h s)
 
-  lines-drawn : linesAgree w h (t .next1) (t .side1)
-      ≡ (equal (t .next1) (drawn w h n .next1) && equal (t .side1) (drawn w h n .side1))
+  lines-drawn : linesAgree w h x s ≡ (equal x (drawn w h n .next1) && equal s (drawn w h n .side1))
   unfolding linesAgree masksOf roundOf
   lines-drawn = rw (line-next w h n, line-side w h n)
 
+  pub agreeing : (b : Bool) → b ≡ linesAgree w h x s → not b ≡ false → linesAgree w h x s ≡ true
+  agreeing b f g = sym f ∙ not-false b g
+
+  module _ (f : linesAgree w h x s ≡ true) where
+    agreed : (equal x (drawn w h n .next1) && equal s (drawn w h n .side1)) ≡ true
+    agreed = sym lines-drawn ∙ f
+
+    next-is : x ≡ drawn w h n .next1
+    next-is = equal-iff x (drawn w h n .next1) .0 (and-left _ (equal s (drawn w h n .side1)) agreed)
+
+    side-is : s ≡ drawn w h n .side1
+    side-is = equal-iff s (drawn w h n .side1) .0 (and-right (equal x (drawn w h n .next1)) _ agreed)
+
+    -- so a run is the same run back
+    pub runs-agreed : (m a c : List ℕ) → within w h ≡ true → m ≡ masksOf w h s → Kept w h s m a c
+        → TwoWay w (slots w h) x (take (points w h) c)
+    unfolding masksOf roundOf
+    runs-agreed m a c e p g =
+        let room = within-fits w h e in
+        let z : take (points w h) c ≡ keeps w h (masked w h (framed w h n)) (tops w h (on (drawn w h n .side1))) =
+        g .points ∙ rw (p, g .tops, ← side-is) in
+        rw next-is (curve-runs w h n room (names-side-small w h (recovered w h s) room) (take (points w h) c) z)
+
+-- Both parts together.
+module _ (w h : ℕ) (t : Tables) (e : within w h ≡ true) where
+  abbrev named : List ℕ
+  named = names w h (recovered w h (t .side1))
+
   pub is-drawing-no : (b : Bool) → b ≡ linesAgree w h (t .next1) (t .side1) → not b ≡ true → false ≡ isDrawing w h t
   unfolding isDrawing same drawing
-  is-drawing-no b f g = let z = sym lines-drawn ∙ sym f ∙ not-true b g in rw z
+  is-drawing-no b f g = let z = sym (lines-drawn w h (t .next1) (t .side1)) ∙ sym f ∙ not-true b g in rw z
 
   module _ (b : Bool) (f : b ≡ linesAgree w h (t .next1) (t .side1)) (g : not b ≡ false) where
-    agreed : (equal (t .next1) (drawn w h n .next1) && equal (t .side1) (drawn w h n .side1)) ≡ true
-    agreed = sym lines-drawn ∙ sym f ∙ not-false b g
+    lines : linesAgree w h (t .next1) (t .side1) ≡ true
+    lines = agreeing w h (t .next1) (t .side1) b f g
 
-    next-is : t .next1 ≡ drawn w h n .next1
-    next-is = equal-iff (t .next1) (drawn w h n .next1) .0 (and-left _ (equal (t .side1) (drawn w h n .side1)) agreed)
-
-    side-is : t .side1 ≡ drawn w h n .side1
-    side-is = equal-iff (t .side1) (drawn w h n .side1) .0 (and-right (equal (t .next1) (drawn w h n .next1)) _ agreed)
+    side-drawn : t .side1 ≡ drawn w h named .side1
+    side-drawn = side-is w h (t .next1) (t .side1) lines
 
     curves-drawn : curvesAgree w h t (masksOf w h (t .side1))
-        ≡ (equal (t .next3) (drawn w h n .next3) && equal (t .other3) (drawn w h n .other3)
-        && equal (t .parent) (drawn w h n .parent))
+        ≡ (equal (t .next3) (drawn w h named .next3) && equal (t .other3) (drawn w h named .other3)
+        && equal (t .parent) (drawn w h named .parent))
     unfolding curvesAgree masksOf roundOf
     curves-drawn =
         let room = within-fits w h e in
         let small = names-side-small w h (recovered w h (t .side1)) room in
-        let k : List ℕ = keeps w h (masked w h (framed w h n)) (tops w h (on (t .side1))) in
-        let z : k ≡ keeps w h (masked w h (framed w h n)) (tops w h (on (drawn w h n .side1))) =
-        ap (λ v. keeps w h (masked w h (framed w h n)) (tops w h (on v))) side-is in
-        let i : alongNext w h (t .next1) k ≡ drawn w h n .next3 =
-        ap (λ v. alongNext w h v k) next-is ∙ curve-next w h n room small k z in
-        let j : alongOther w h (t .next1) k ≡ drawn w h n .other3 =
-        ap (λ v. alongOther w h v k) next-is ∙ curve-other w h n room small k z in
-        let q : table (w * h + 1) (parent w (on (t .side1)) (at (t .side1)) (tops w h (on (t .side1)))) ≡ drawn w h n .parent =
-        ap (λ v. table (w * h + 1) (parent w (on v) (at v) (tops w h (on v)))) side-is ∙ parents-whole w h n room small in
+        let next-drawn = next-is w h (t .next1) (t .side1) lines in
+        let k : List ℕ = keeps w h (masked w h (framed w h named)) (tops w h (on (t .side1))) in
+        let z : k ≡ keeps w h (masked w h (framed w h named)) (tops w h (on (drawn w h named .side1))) =
+        ap (λ v. keeps w h (masked w h (framed w h named)) (tops w h (on v))) side-drawn in
+        let i : alongNext w h (t .next1) k ≡ drawn w h named .next3 =
+        ap (λ v. alongNext w h v k) next-drawn ∙ curve-next w h named room small k z in
+        let j : alongOther w h (t .next1) k ≡ drawn w h named .other3 =
+        ap (λ v. alongOther w h v k) next-drawn ∙ curve-other w h named room small k z in
+        let q : table (w * h + 1) (parent w (on (t .side1)) (at (t .side1)) (tops w h (on (t .side1))))
+        ≡ drawn w h named .parent =
+        ap (λ v. table (w * h + 1) (parent w (on v) (at v) (tops w h (on v)))) side-drawn ∙ parents-whole w h named room small in
         λ l. equal (t .next3) (i l) && equal (t .other3) (j l) && equal (t .parent) (q l)
 
     pub is-drawing-yes : (r : Bool) (m : List ℕ) → m ≡ masksOf w h (t .side1) → r ≡ curvesAgree w h t m → r ≡ isDrawing w h t
     unfolding isDrawing same drawing
-    is-drawing-yes r m p q = q ∙ ap (curvesAgree w h t) p ∙ curves-drawn ∙ rw agreed
+    is-drawing-yes r m p q =
+        q ∙ ap (curvesAgree w h t) p ∙ curves-drawn ∙ rw (agreed w h (t .next1) (t .side1) lines)

@@ -38,7 +38,7 @@ pub fn lines_agree(
     entry::both_same(next1, c, side1, d)
 }
 
-// Whether level 3 and the parents are those of these next and sides of level 1, with the masks of its points given.
+// Whether level 3 and the parents are those of these next and sides of level 1, which agree; the masks of its points are given.
 pub fn curves_agree(
     width: u16,
     height: u16,
@@ -55,7 +55,9 @@ pub fn curves_agree(
     requires { ⌜
         (within width height ≡ true) × (length (now side1) ≡ slots width height) × (length (now a) ≡ slots width height) ×
         (length (now b) ≡ slots width height) × (length (now c) ≡ slots width height) ×
-        (length (now d) ≡ slots width height)
+        (length (now d) ≡ slots width height) × (length (now next1) ≡ slots width height) ×
+        (linesAgree width height (now next1) (now side1) ≡ true) ×
+        (take (points width height) (now b) ≡ masksOf width height (now side1))
         ⌝ }
     ensures { λ r. ⌜
         r ≡

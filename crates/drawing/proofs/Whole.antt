@@ -1,5 +1,5 @@
 -- The parts of a drawing make the whole, for cells with the names n.
-use mathlib.Core.Path.{_≡_, ap, _∙_, fun-ext}
+use mathlib.Core.Path.{_≡_, sym, ap, _∙_, subst, fun-ext}
 use mathlib.Core.Bool.{Bool, true}
 use mathlib.Core.List.{List}
 use Prim.Native.Nat.{ℕ, _+_, _*_, _≤_, _<_}
@@ -15,6 +15,7 @@ use Rattle.paper.specs.Joining.{at, on}
 use Rattle.paper_laws.proofs.Sheet.{border-lines, border-below}
 use Rattle.paper_laws.proofs.Marks.{within-fits, on-marked, names-side-small}
 use Rattle.paper_laws.proofs.Piece.{tops-le}
+use Rattle.paper_laws.proofs.Along.{kept3-kept, Kept as Kept′}
 use Rattle.paper_laws.proofs.Joined.{parents-drawn}
 use Rattle.region_names.specs.Frame.{framed}
 use Rattle.level_lines.specs.Mask.{masked}
@@ -22,8 +23,8 @@ use Rattle.level_lines.specs.Line.{nexts}
 use Rattle.level_lines.specs.Side.{sides}
 use Rattle.level_lines.proofs.Paper.{masked-paper, nexts-paper, sides-paper}
 use Rattle.level_curves.specs.Keep.{keeps}
-use Rattle.level_curves.specs.Link.{keptAt, alongNext, alongOther}
-use Rattle.level_curves.proofs.Paper.{keeps-paper, alongNext-paper, alongOther-paper}
+use Rattle.level_curves.specs.Link.{keptAt, alongNext, alongOther, TwoWay}
+use Rattle.level_curves.proofs.Paper.{keeps-paper, alongNext-paper, alongOther-paper, two-way}
 use Rattle.region_parents.specs.Tops.{Rising}
 use Rattle.table_lengths.specs.Given.{tables}
 use Rattle.drawing.specs.Parts.{Lined, Kept, Curved}
@@ -57,6 +58,10 @@ module _ (w h : ℕ) (n : List ℕ) where
       kept-is : keptAt k ≡ among (kept3 w h (border w h n))
       kept-is = ap keptAt e ∙ kept-same
 
+      pub curve-runs : TwoWay w (slots w h) (drawn w h n .next1) k
+      unfolding drawn level plain
+      curve-runs = two-way w h n room k (subst (Kept′ w h n) (sym kept-is) (kept3-kept w h n))
+
       pub curve-next : alongNext w h (drawn w h n .next1) k ≡ drawn w h n .next3
       unfolding drawn level plain
       curve-next =
@@ -77,33 +82,47 @@ module _ (w h : ℕ) (n : List ℕ) where
     parents-whole = parents-drawn w h n small
 
     -- all parts
-    pub whole : (r m x s t k y o p : List ℕ) → take (surround w h) r ≡ framed w h n
-        → Lined w h (take (surround w h) r) m x s → Kept w h s (take (points w h) m) t k
-        → Curved w h x (take (points w h) k) y o
-        → p ≡ table (w * h + 1) (parent w (on s) (at s) (take (points w h) t))
-        → tables x s y o p ≡ drawn w h n
-    whole r m x s t k y o p e f g c q =
-        let a : x ≡ drawn w h n .next1 = f .next ∙ ap (λ u. nexts w h (masked w h u)) e ∙ line-next in
-        let b : s ≡ drawn w h n .side1 = f .side ∙ ap (λ u. sides w h u (masked w h u)) e ∙ line-side in
-        let j : take (points w h) t ≡ tops w h (on (drawn w h n .side1)) = g .tops ∙ ap (λ u. tops w h (on u)) b in
-        let z : take (points w h) k ≡ keeps w h (masked w h (framed w h n)) (tops w h (on (drawn w h n .side1))) =
-        rw (← e, ← f .masks, ← j) (g .points) in
-        tables-path x s y o p (drawn w h n) a b
-        (c .next ∙ ap (λ u. alongNext w h u (take (points w h) k)) a ∙ curve-next (take (points w h) k) z)
-        (c .other ∙ ap (λ u. alongOther w h u (take (points w h) k)) a ∙ curve-other (take (points w h) k) z)
-        (q ∙ rw (j, b) parents-whole)
+    module _ (r m x s t k : List ℕ) (e : take (surround w h) r ≡ framed w h n)
+        (f : Lined w h (take (surround w h) r) m x s) (g : Kept w h s (take (points w h) m) t k) where
+      next-whole : x ≡ drawn w h n .next1
+      next-whole = f .next ∙ ap (λ u. nexts w h (masked w h u)) e ∙ line-next
+
+      side-whole : s ≡ drawn w h n .side1
+      side-whole = f .side ∙ ap (λ u. sides w h u (masked w h u)) e ∙ line-side
+
+      tops-whole : take (points w h) t ≡ tops w h (on (drawn w h n .side1))
+      tops-whole = g .tops ∙ ap (λ u. tops w h (on u)) side-whole
+
+      kept-whole : take (points w h) k ≡ keeps w h (masked w h (framed w h n)) (tops w h (on (drawn w h n .side1)))
+      kept-whole = rw (← e, ← f .masks, ← tops-whole) (g .points)
+
+      pub runs-whole : TwoWay w (slots w h) x (take (points w h) k)
+      runs-whole = rw next-whole (curve-runs (take (points w h) k) kept-whole)
+
+      pub whole : (y o p : List ℕ) → Curved w h x (take (points w h) k) y o
+          → p ≡ table (w * h + 1) (parent w (on s) (at s) (take (points w h) t))
+          → tables x s y o p ≡ drawn w h n
+      whole y o p c q =
+          tables-path x s y o p (drawn w h n) next-whole side-whole
+          (c .next ∙ ap (λ u. alongNext w h u (take (points w h) k)) next-whole ∙ curve-next (take (points w h) k) kept-whole)
+          (c .other ∙ ap (λ u. alongOther w h u (take (points w h) k)) next-whole ∙ curve-other (take (points w h) k) kept-whole)
+          (q ∙ rw (tops-whole, side-whole) parents-whole)
 
 -- A sheet whose cells have these labels.
-module _ (w h : ℕ) (l : List ℕ) (e : within w h ≡ true) where
-  pub drawing-whole : (r m x s t k y o p : List ℕ) → take (surround w h) r ≡ framed w h (names w h l)
-      → Lined w h (take (surround w h) r) m x s → Kept w h s (take (points w h) m) t k
-      → Curved w h x (take (points w h) k) y o
+module _ (w h : ℕ) (l : List ℕ) (e : within w h ≡ true) (r m x s t k : List ℕ)
+    (q : take (surround w h) r ≡ framed w h (names w h l)) (f : Lined w h (take (surround w h) r) m x s)
+    (g : Kept w h s (take (points w h) m) t k) where
+  room : slots w h ≤ mark
+  room = within-fits w h e
+
+  pub drawing-runs : TwoWay w (slots w h) x (take (points w h) k)
+  drawing-runs = runs-whole w h (names w h l) room (names-side-small w h l room) r m x s t k q f g
+
+  pub drawing-whole : (y o p : List ℕ) → Curved w h x (take (points w h) k) y o
       → p ≡ table (w * h + 1) (parent w (on s) (at s) (take (points w h) t))
       → tables x s y o p ≡ drawing w h l
   unfolding drawing
-  drawing-whole =
-      let f = within-fits w h e in
-      whole w h (names w h l) f (names-side-small w h l f)
+  drawing-whole = whole w h (names w h l) room (names-side-small w h l room) r m x s t k q f g
 
 -- no point's top is after the point
 pub tops-rising : (w h : ℕ) (s m t k : List ℕ) → Kept w h s m t k → Rising (take (points w h) t)

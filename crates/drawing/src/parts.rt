@@ -16,6 +16,7 @@ ghost use Rattle.point_darts.specs.Dart.{points, slots};
 ghost use Rattle.paper.specs.Enclosure.{parent};
 ghost use Rattle.paper.specs.Joining.{at, on};
 ghost use Rattle.region_names.specs.Frame.{surround};
+ghost use Rattle.level_curves.specs.Link.{TwoWay};
 ghost use Rattle.region_parents.specs.Tops.{Rising};
 ghost use Rattle.drawing.specs.Parts.{Lined, Kept, Curved};
 
@@ -80,7 +81,9 @@ pub fn draw_curves(
 )
     requires { ⌜
         (within width height ≡ true) × (length (now kept) ≡ slots width height) ×
-        (length (now next3) ≡ slots width height) × (length (now other3) ≡ slots width height)
+        (length (now next3) ≡ slots width height) × (length (now other3) ≡ slots width height) ×
+        (length (now next1) ≡ slots width height) ×
+        TwoWay width (slots width height) (now next1) (take (points width height) (now kept))
         ⌝ }
     ensures { λ _. ⌜
         Curved width height (now (next1 .entry)) (take (points width height) (now (kept .entry))) (now (next3 .exit))
@@ -95,7 +98,8 @@ pub fn draw_curves(
 pub fn draw_parents(width: u16, height: u16, side1: &[u16], top: &[u16], parents: &mut [u16])
     requires { ⌜
         (within width height ≡ true) × (length (now top) ≡ slots width height) ×
-        Rising (take (points width height) (now top)) × (length (now parents) ≡ width * height + 1)
+        Rising (take (points width height) (now top)) × (length (now parents) ≡ width * height + 1) ×
+        (length (now side1) ≡ slots width height)
         ⌝ }
     ensures { λ _. ⌜
         now (parents .exit) ≡

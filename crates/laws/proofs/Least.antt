@@ -56,6 +56,10 @@ lower-left a b = lower-of a b a (inl refl)
 pub lower-right : (a b : ℕ) → lower a b b ≡ min a b
 lower-right a b = lower-of a b b (inr refl)
 
+-- nothing falls where the two are one
+lower-self : (a v : ℕ) → lower a a v ≡ v
+lower-self a v = ⊎-elim (λ p. omega arith) (λ p. p .1) (lower-cases a a v)
+
 pub lower-comm : (a b v : ℕ) → lower a b v ≡ lower b a v
 unfolding lower
 lower-comm a b v = rw (max-comm a b, min-comm a b)
@@ -129,19 +133,29 @@ module _ (i j : ℕ) (t : List ℕ) where
   getD-tie k = getD-lower (getD t i 0) (getD t j 0) t k
 
   -- the two entries become one
-  tie-one : getD (tie i j t) i 0 ≡ getD (tie i j t) j 0
+  pub tie-one : getD (tie i j t) i 0 ≡ getD (tie i j t) j 0
   tie-one =
       let a = getD t i 0 in
       let b = getD t j 0 in
       cc (getD-tie i, getD-tie j, lower-left a b, lower-right a b)
 
   -- entries that are equal stay equal
-  tie-same : (x y : ℕ) → getD t x 0 ≡ getD t y 0 → getD (tie i j t) x 0 ≡ getD (tie i j t) y 0
+  pub tie-same : (x y : ℕ) → getD t x 0 ≡ getD t y 0 → getD (tie i j t) x 0 ≡ getD (tie i j t) y 0
   tie-same x y e = cc (getD-tie x, getD-tie y)
 
   length-tie : length (tie i j t) ≡ length t
   unfolding tie
   length-tie = length-map t (lower (getD t i 0) (getD t j 0))
+
+  -- where the two entries are one already, the table stays
+  pub tie-idle : getD t i 0 ≡ getD t j 0 → tie i j t ≡ t
+  tie-idle e =
+      ext-getD 0 (tie i j t) t length-tie
+      (λ k h. rw (getD-tie k, e) (lower-self (getD t j 0) (getD t k 0)))
+
+-- to tie two entries again changes nothing
+pub tie-again : (i j : ℕ) (t : List ℕ) → tie i j (tie i j t) ≡ tie i j t
+tie-again i j t = tie-idle i j (tie i j t) (tie-one i j t)
 
 pub record Roots (b c : ℕ → ℕ) (n : ℕ) (g : ℕ → ℕ) : Type 0 where
   pub same-b : (i : ℕ) → i < n → g (b i) ≡ g i

@@ -1,8 +1,10 @@
 -- The three tables of a level are those of the paper.
-use mathlib.Core.Path.{_≡_, fun-ext}
-use mathlib.Core.Bool.{Bool}
+use mathlib.Core.Path.{_≡_, refl, sym, ap, _∙_, subst, fun-ext}
+use mathlib.Core.Bool.{Bool, true, false}
 use mathlib.Core.List.{List, [], _∷_}
 use Prim.Native.Nat.{ℕ, zero, suc, _<_, _≤_}
+use lib.Dec.{eqb}
+use Rattle.sheet_size.specs.Size.{within}
 use Rattle.point_darts.specs.Dart.{mark, slots, line}
 use Rattle.point_darts.proofs.Darts.{line-reversal}
 use Rattle.paper.specs.Name.{names}
@@ -11,16 +13,17 @@ use Rattle.paper.specs.Joining.{on}
 use Rattle.paper.specs.Refusal.{levelTables}
 use Rattle.paper_laws.proofs.Next.{Lines}
 use Rattle.paper_laws.proofs.Sheet.{border-lines}
-use Rattle.paper_laws.proofs.Marks.{on-marked, names-side-small, lines-inside}
+use Rattle.paper_laws.proofs.Marks.{on-marked, names-side-small, lines-inside, within-fits}
+use Rattle.paper_laws.proofs.Along.{Kept, kept2-kept, kept3-kept}
 use Rattle.region_names.specs.Frame.{framed}
-use Rattle.level_lines.specs.Mask.{ruled}
+use Rattle.level_lines.specs.Mask.{masked, ruled}
 use Rattle.level_lines.specs.Line.{nexts}
 use Rattle.level_lines.specs.Side.{sides}
 use Rattle.level_curves.specs.Keep.{bends, keeps}
-use Rattle.level_curves.specs.Link.{keptAt}
+use Rattle.level_curves.specs.Link.{keptAt, TwoWay}
 use Rattle.level_lines.proofs.Paper.{drafted, nexts-paper, others-paper, masked-paper, sides-paper}
-use Rattle.level_curves.proofs.Paper.{bends-paper, keeps-paper, alongNext-paper, alongOther-paper, trimmed-paper}
-use Rattle.level_call.specs.Tables.{plainTables, alongTables, tablesOf}
+use Rattle.level_curves.proofs.Paper.{bends-paper, keeps-paper, alongNext-paper, alongOther-paper, trimmed-paper, two-way}
+use Rattle.level_call.specs.Tables.{plainTables, alongTables, keptPoints, tablesOf, Framed}
 
 three : {a b c x y z : List ℕ} → a ≡ x → b ≡ y → c ≡ z → _≡_ {A = List (List ℕ)} (a ∷ b ∷ c ∷ []) (x ∷ y ∷ z ∷ [])
 three p q r = λ i. p i ∷ q i ∷ r i ∷ []
@@ -61,6 +64,30 @@ module _ (w h : ℕ) (n : List ℕ) (room : slots w h ≤ mark) where
         let o = border w h n in
         rw (masked-paper w h n, sides-on)
         (along-paper o (border-lines w h n) (keeps w h (drafted w h o) (tops w h o)) (among (kept3 w h o)) (keeps-paper w h o))
+
+    -- the runs of levels 2 and 3
+    kept-points : (l : ℕ) (b : Bool) → eqb l 2 ≡ b → (k : List ℕ)
+        → k ≡ keptPoints w h l (drafted w h (border w h n)) (sides w h (framed w h n) (drafted w h (border w h n)))
+        → Kept w h n (keptAt k)
+    unfolding keptPoints
+    kept-points l true e k f =
+        subst (Kept w h n) (sym (ap keptAt (f ∙ rw e) ∙ bends-paper w h (border w h n))) (kept2-kept w h n)
+    kept-points l false e k f =
+        subst (Kept w h n) (sym (ap keptAt (f ∙ rw (e, sides-on)) ∙ keeps-paper w h (border w h n))) (kept3-kept w h n)
+
+    pub runs-paper : (l : ℕ) (m x s k : List ℕ) → m ≡ masked w h (framed w h n) → x ≡ nexts w h m
+        → s ≡ sides w h (framed w h n) m → k ≡ keptPoints w h l m s → TwoWay w (slots w h) x k
+    runs-paper l m x s k p q r t =
+        let d : m ≡ drafted w h (border w h n) = p ∙ masked-paper w h n in
+        rw (q, d, nexts-paper w h (border w h n) (border-lines w h n))
+        (two-way w h n room k (kept-points l (eqb l 2) refl k (t ∙ rw (r, d))))
+
+pub runs-level : (w h l : ℕ) (f m x s k : List ℕ) → within w h ≡ true → Framed w h f → m ≡ masked w h f → x ≡ nexts w h m
+    → s ≡ sides w h f m → k ≡ keptPoints w h l m s → TwoWay w (slots w h) x k
+runs-level w h l f m x s k e g p q r t =
+    let room = within-fits w h e in
+    runs-paper w h (names w h (g .sheet)) room (names-side-small w h (g .sheet) room) l m x s k
+    (p ∙ ap (masked w h) (g .names)) q (r ∙ ap (λ u. sides w h u m) (g .names)) t
 
 pub levelTables-paper : (w h l : ℕ) (s : List ℕ) → slots w h ≤ mark
     → tablesOf w h l (framed w h (names w h s)) ≡ levelTables w h l s

@@ -6,21 +6,25 @@ use mathlib.Core.Path.{_≡_, refl, sym, ap, _∙_}
 use mathlib.Core.Bool.{Bool, true, false, not, _&&_, _||_, and-true, and-false}
 use mathlib.Core.List.{List}
 use mathlib.Core.Logic.{_≢_}
-use Prim.Native.Nat.{ℕ, _+_, _≤_, _<_}
+use Prim.Native.Nat.{ℕ, _+_, _*_, _-_, _≤_, _<_}
 use native.Mathlib.Numerals.{add-one}
 use native.Mathlib.Decide.{ℕ-discrete, decLt}
 use native.Mathlib.Omega.{arith}
-use lib.Dec.{eqb}
-use lib.ListN.{length, getD, set, replicate, length-set}
+use lib.Dec.{eqb, ltb, lit<}
+use lib.ListN.{length, getD, set, length-set}
 use lib.Seq.{ext-getD, getD-set-same, getD-set-other}
-use borrow.Author.Tests.{eq-eqb, ne-eqb, le-ltb}
+use borrow.Author.Tests.{eqb-true, eq-eqb, ne-eqb, le-ltb}
 use Rattle.laws.specs.Table.{table, number, some}
-use Rattle.laws.proofs.Table.{length-table, getD-table, getD-table-past, table-agree}
-use Rattle.point_darts.specs.Dart.{mark, points}
-use Rattle.point_rules.specs.Turn.{becomesOf, kinding}
+use Rattle.laws.proofs.Table.{length-table, getD-table, getD-table-past, table-agree, none-some}
+use Rattle.point_darts.specs.Dart.{mark, points, turned}
+use Rattle.point_darts.specs.Point.{bits, half, has, degree, inline}
+use Rattle.point_rules.specs.Turn.{without, impossible, kind, becomes, becomesOf, kinding}
+use Rattle.point_rules.proofs.Turns.{each, each-at}
+use Rattle.paper.specs.Level.{tops}
 use Rattle.paper.specs.Joining.{at}
+use Rattle.paper_laws.proofs.Piece.{tops-le}
 use Rattle.level_curves.specs.Keep.{kindAt, large, stands, anchored, settles, keeps}
-use Rattle.table_entries.proofs.Entries.{values-table}
+use Rattle.table_entries.proofs.Entries.{at-entry}
 
 -- Whether level 2 keeps a point, by the kind k of its mask.
 module _ (k j : ℕ) (e : k ≡ j) where
@@ -61,20 +65,80 @@ pub bend-entry : (ks m : List ℕ) (p l v : ℕ) → ks ≡ kinding → l ≡ at
 unfolding large kindAt
 bend-entry ks m p l v q e f = rw (← e, ← (kind-large l), ← (kind-corner l), ← q) f
 
--- the entry of level 3
-pub settle-entry : (ks m t k : List ℕ) (p l u f v : ℕ) → ks ≡ kinding → l ≡ at m p → u ≡ at t p → f ≡ at k p
-    → v ≡ number (eqb (at ks l) 3 || (not (eqb l 0) && eqb u p && not (eqb f 1))) → v ≡ settles m t k p
-unfolding settles large kindAt
-settle-entry ks m t k p l u f v q e g h i = rw (← e, ← g, ← h, ← (kind-large l), ← q) i
+-- a flag of level 3, from the comparison
+pub large-entry : (m : List ℕ) (p l v : ℕ) → l ≡ at m p → v ≡ number (eqb (becomesOf l 0) 3) → v ≡ number (large m p)
+unfolding large kindAt
+large-entry m p l v e i = rw (← e) i
 
--- Flags.
+-- the entry of level 3
+pub settle-entry : (m t k : List ℕ) (p l u f v : ℕ) → l ≡ at m p → u ≡ at t p → f ≡ at k p
+    → v ≡ number (eqb (becomesOf l 0) 3 || (not (eqb l 0) && eqb u p && not (eqb f 1))) → v ≡ settles m t k p
+unfolding settles large kindAt
+settle-entry m t k p l u f v e g h i = rw (← e, ← g, ← h) i
+
+pub number-once : (a b : Bool) → number a ≡ number b → a ≡ b
+number-once true true e = refl
+number-once true false e = absurd (omega arith)
+number-once false true e = absurd (omega arith)
+number-once false false e = refl
+
+-- Masks of three or four lines, as they are compared.
+past-small : (m : ℕ) → 16 ≤ m → eqb (becomesOf m 0) 3 ≡ false
+unfolding becomesOf
+past-small m h = rw (le-ltb m 16 h)
+
+abbrev compared : ℕ → Bool
+compared m = eqb m 7 || eqb m 11 || ltb 12 m && ltb m 16
+
+all-compared : each 1 1 (λ m j k. eqb (number (compared m)) (number (eqb (becomesOf m 0) 3))) ≡ true
+unfolding becomesOf becomes impossible kind without degree inline bits has half turned
+all-compared = refl
+
+pub large-compared : (m : ℕ) → compared m ≡ eqb (becomesOf m 0) 3
+large-compared m = go (decLt m 16)
+  where
+    go : Dec (m < 16) → compared m ≡ eqb (becomesOf m 0) 3
+    go (yes h) =
+        number-once _ _
+        (eqb-true _ _
+        (each-at 1 1 (λ m j k. eqb (number (compared m)) (number (eqb (becomesOf m 0) 3))) all-compared m h 0 0 (lit< tt) (lit< tt)))
+    go (no h) =
+        let l : 16 ≤ m = omega arith in
+        rw (ne-eqb m 7 (λ e. omega arith), ne-eqb m 11 (λ e. omega arith), le-ltb m 16 l) (and-false (ltb 12 m)) ∙ sym (past-small m l)
+
+or-false : (a : Bool) → (a || false) ≡ a
+or-false true = refl
+or-false false = refl
+
+or-true : (a : Bool) → (a || true) ≡ true
+or-true true = refl
+or-true false = refl
+
+pub number-le : (a : Bool) → number a ≤ 1
+number-le true = omega arith
+number-le false = omega arith
+
+-- Flags. The way back from place i to t, where v is 1, and none where it is 0.
+pub back-le : (i t v : ℕ) (r : Bool) → v ≡ number r → (i - t) * v ≤ i
+back-le i t v true e = rw e (omega arith)
+back-le i t v false e = rw e (omega arith)
+
 abbrev pub flags : ℕ → List ℕ → List ℕ → ℕ → List ℕ
-flags n m t i = table n (λ p. number (stands i m t p))
+flags n m t i = table n (λ p. number (large m p || stands i m t p))
 
 module _ (n : ℕ) (m t : List ℕ) where
-  pub flags-none : (k : List ℕ) → length k ≡ n → k ≡ replicate (length k) 0 → k ≡ flags n m t 0
+  -- at first the large points alone
+  pub flags-none : table n (λ p. number (large m p)) ≡ flags n m t 0
   unfolding stands some
-  flags-none k e f = rw e at f ∙ sym (values-table 0 n)
+  flags-none =
+      table-agree n (λ p. number (large m p)) (λ p. number (large m p || stands 0 m t p))
+      (λ p b. ap number (sym (or-false (large m p))))
+
+  flag-read : (i p d : ℕ) → p < n → getD (flags n m t i) p d ≡ number (large m p || stands i m t p)
+  flag-read i p d b = getD-table n (λ p. number (large m p || stands i m t p)) p d b
+
+  pub flags-long : (i : ℕ) → length (flags n m t i) ≡ n
+  flags-long i = length-table n (λ p. number (large m p || stands i m t p))
 
   stands-off : (i p : ℕ) → large m i ≡ false → stands i m t p ≡ stands (i + 1) m t p
   unfolding stands some
@@ -85,57 +149,88 @@ module _ (n : ℕ) (m t : List ℕ) where
   stands-on i p e = rw (add-one i, e, and-true (eqb (at t i) p))
 
   -- a point more that is not large
-  pub flags-same : (i v : ℕ) → v ≡ at m i → eqb (becomesOf v 0) 3 ≡ false → flags n m t i ≡ flags n m t (i + 1)
-  unfolding large kindAt
-  flags-same i v e f =
-      table-agree n (λ p. number (stands i m t p)) (λ p. number (stands (i + 1) m t p))
-      (λ p b. ap number (stands-off i p (rw e at f)))
+  flags-same : (i : ℕ) → large m i ≡ false → flags n m t i ≡ flags n m t (i + 1)
+  flags-same i e =
+      table-agree n (λ p. number (large m p || stands i m t p)) (λ p. number (large m p || stands (i + 1) m t p))
+      (λ p b. ap (λ s. number (large m p || s)) (stands-off i p e))
 
   -- a point more that is large
   flag-at : (i p : ℕ) → p < n → large m i ≡ true → Dec (p ≡ at t i)
-      → getD (set (flags n m t i) (at t i) 1) p 0 ≡ number (stands (i + 1) m t p)
+      → getD (set (flags n m t i) (at t i) 1) p 0 ≡ number (large m p || stands (i + 1) m t p)
   flag-at i p b f (yes q) =
-      rw (stands-on i p f, ← q, eq-eqb p p refl)
-      (getD-set-same (flags n m t i) p 1 0 (rw (length-table n (λ p. number (stands i m t p))) b))
+      rw (stands-on i p f, ← q, eq-eqb p p refl, or-true (large m p))
+      (getD-set-same (flags n m t i) p 1 0 (rw (flags-long i) b))
   flag-at i p b f (no q) =
       rw (stands-on i p f, ne-eqb (at t i) p (λ r. q (sym r)))
-      (getD-set-other (flags n m t i) (at t i) p 1 0 q ∙ getD-table n (λ p. number (stands i m t p)) p 0 b)
+      (getD-set-other (flags n m t i) (at t i) p 1 0 q ∙ flag-read i p 0 b)
 
-  pub flags-more : (i v u : ℕ) → v ≡ at m i → u ≡ at t i → eqb (becomesOf v 0) 3 ≡ true
-      → set (flags n m t i) u 1 ≡ flags n m t (i + 1)
-  unfolding large kindAt
-  flags-more i v u e g f =
+  flags-more : (i u : ℕ) → u ≡ at t i → large m i ≡ true → set (flags n m t i) u 1 ≡ flags n m t (i + 1)
+  flags-more i u g f =
       rw g
       (ext-getD 0 (set (flags n m t i) (at t i) 1) (flags n m t (i + 1))
-      (length-set (flags n m t i) (at t i) 1 ∙ length-table n (λ p. number (stands i m t p))
-      ∙ sym (length-table n (λ p. number (stands (i + 1) m t p))))
+      (length-set (flags n m t i) (at t i) 1 ∙ flags-long i ∙ sym (flags-long (i + 1)))
       (λ p b.
-      let d : p < n = rw (length-set (flags n m t i) (at t i) 1, length-table n (λ p. number (stands i m t p))) at b in
-      flag-at i p d (rw e at f) (ℕ-discrete p (at t i)) ∙ sym (getD-table n (λ p. number (stands (i + 1) m t p)) p 0 d)))
+      let d : p < n = rw (length-set (flags n m t i) (at t i) 1, flags-long i) at b in
+      flag-at i p d f (ℕ-discrete p (at t i)) ∙ sym (flag-read (i + 1) p 0 d)))
 
-  -- a point more, as its kind is found
-  module _ (ks k l : List ℕ) (i v g : ℕ) (f : k ≡ flags n m t i) (e : ks ≡ kinding)
-      (at-v : v ≡ at m i) (at-g : g ≡ at ks v) where
-    found : (j : ℕ) → eqb g j ≡ eqb (at kinding v) j
-    found j = rw (at-g, e)
+  -- a point more, where no top is after its point
+  module _ (low : (q : ℕ) → getD t q 0 ≤ q) (long : length t ≡ n) (i : ℕ) (b : i < n) where
+    -- no other point's flag stands at a place that comes later
+    none-yet : stands i m t i ≡ false
+    unfolding stands
+    none-yet =
+        none-some (λ q. eqb (at t q) i && large m q) i
+        (λ q l.
+        ap (λ e. e && large m q)
+        (ne-eqb (at t q) i (λ e. omega (arith, low q, at-entry t q (omega (arith, long))))))
 
-    pub flag-large : (u : ℕ) → g ≡ 3 → u ≡ at t i → l ≡ set k u 1 → l ≡ flags n m t (i + 1)
-    flag-large u q a b =
-        b ∙ rw f (flags-more i v u at-v a (sym (kind-large v) ∙ sym (found 3) ∙ eq-eqb g 3 q))
+    own-flag : getD (flags n m t i) i 0 ≡ number (large m i)
+    own-flag = flag-read i i 0 b ∙ ap (λ s. number (large m i || s)) none-yet ∙ ap number (or-false (large m i))
 
-    pub flag-small : g ≢ 3 → l ≡ k → l ≡ flags n m t (i + 1)
-    flag-small q b =
-        b ∙ f ∙ flags-same i v at-v (sym (kind-large v) ∙ sym (found 3) ∙ ne-eqb g 3 q)
+    set-own : (v : ℕ) → v ≡ getD (flags n m t i) i 0 → set (flags n m t i) i v ≡ flags n m t i
+    set-own v e =
+        ext-getD 0 (set (flags n m t i) i v) (flags n m t i) (length-set (flags n m t i) i v) (λ p _. go p (ℕ-discrete p i))
+      where
+        go : (p : ℕ) → Dec (p ≡ i) → getD (set (flags n m t i) i v) p 0 ≡ getD (flags n m t i) p 0
+        go p (yes q) = rw q (getD-set-same (flags n m t i) i v 0 (rw (flags-long i) b) ∙ e)
+        go p (no q) = getD-set-other (flags n m t i) i p v 0 q
+
+    -- the point's own flag is 1 where it is large, else 0
+    pub flag-own : (k : List ℕ) → k ≡ flags n m t i → getD k i 0 ≡ number (large m i)
+    flag-own k f = ap (λ l. getD l i 0) f ∙ own-flag
+
+    -- it goes to the point's top where it is 1, and stays where it is 0
+    pub flags-next : (k : List ℕ) (u v : ℕ) → k ≡ flags n m t i → v ≡ getD k i 0 → u ≡ i - (i - getD t i 0) * v
+        → set k u v ≡ flags n m t (i + 1)
+    flags-next k u v f p q = go (large m i) refl
+      where
+        go : (r : Bool) → large m i ≡ r → set k u v ≡ flags n m t (i + 1)
+        go true r =
+            let one : v ≡ 1 = p ∙ flag-own k f ∙ ap number r in
+            let back : u ≡ i - (i - getD t i 0) * 1 = rw one at q in
+            let top : u ≡ at t i = omega (arith, back, low i, at-entry t i (omega (arith, long))) in
+            rw (f, one) (flags-more i u top r)
+        go false r =
+            let none : v ≡ 0 = p ∙ flag-own k f ∙ ap number r in
+            let back : u ≡ i - (i - getD t i 0) * 0 = rw none at q in
+            let own : u ≡ i = omega (arith, back) in
+            let read : v ≡ getD (flags n m t i) i 0 = p ∙ ap (λ l. getD l i 0) f in
+            rw (f, own) (set-own v read ∙ flags-same i r)
 
 -- With all flags set, what settles is what level 3 keeps.
 number-test : (b : Bool) → eqb (number b) 1 ≡ b
 number-test true = refl
 number-test false = refl
 
+-- a flag of a large point is told apart by the point itself
+apart : (a b c d : Bool) → (a || (b && c && not (a || d))) ≡ (a || (b && c && not d))
+apart true b c d = refl
+apart false b c d = refl
+
 module _ (w h : ℕ) (m t : List ℕ) where
-  settled-at : (n p : ℕ) → p < n → eqb (at (flags n m t n) p) 1 ≡ stands n m t p
+  settled-at : (n p : ℕ) → p < n → eqb (at (flags n m t n) p) 1 ≡ (large m p || stands n m t p)
   unfolding at
-  settled-at n p b = rw (getD-table n (λ p. number (stands n m t p)) p mark b) (number-test (stands n m t p))
+  settled-at n p b = rw (flag-read n m t n p mark b) (number-test (large m p || stands n m t p))
 
   pub settled-keeps : (n : ℕ) (k u : List ℕ) → n ≡ points w h → k ≡ flags n m t n → u ≡ table n (settles m t k)
       → u ≡ keeps w h m t
@@ -143,5 +238,9 @@ module _ (w h : ℕ) (m t : List ℕ) where
   settled-keeps n k u q e f =
       f
       ∙ table-agree n (settles m t k) (λ p. number (large m p || anchored n m t p))
-      (λ p b. rw (e, settled-at n p b))
+      (λ p b. rw (e, settled-at n p b) (ap number (apart (large m p) (not (eqb (at m p) 0)) (eqb (at t p) p) (stands n m t p))))
       ∙ rw q
+
+-- no point's top is after the point
+pub tops-low : (w h : ℕ) (o : ℕ → Bool) (t : List ℕ) → t ≡ tops w h o → (p : ℕ) → getD t p 0 ≤ p
+tops-low w h o t e p = rw e (tops-le w h o p)

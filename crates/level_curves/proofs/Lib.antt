@@ -1,3 +1,4 @@
 pub mod Flags
+mod Linking
 pub mod Paper
 pub mod Running

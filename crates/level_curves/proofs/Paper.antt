@@ -10,21 +10,28 @@ use lib.ListN.{length, getD}
 use borrow.Author.Tests.{eqb-true}
 use Rattle.laws.specs.Table.{table, number}
 use Rattle.laws.proofs.Table.{getD-table, getD-table-past, table-agree, some-agree}
+use Rattle.laws.proofs.Chart.{Chart, last as last′}
+use Rattle.laws.proofs.Level.{last-other}
+use Rattle.laws.proofs.Test.{and-right}
 use Rattle.laws.proofs.Walk.{run-along}
 use Rattle.point_darts.specs.Dart.{mark, points, slots, dart, point, direction, far, turned, reversal}
 use Rattle.point_darts.specs.Point.{bits, half, has, degree, inline}
 use Rattle.point_rules.specs.Turn.{without, impossible, kind, becomes, becomesOf}
 use Rattle.point_rules.proofs.Turns.{each, each-at}
-use Rattle.paper.specs.Level.{Level, mask, next, last, along, big, bent, tops, anchor, kept2, kept3, among, marked}
+use Rattle.paper.specs.Level.{Level, border, mask, next, last, along, big, bent, tops, anchor, kept2, kept3, among, marked}
 use Rattle.paper.specs.Joining.{at, on}
 use Rattle.paper_laws.proofs.Next.{Lines, mask-below, point-next}
 use Rattle.paper_laws.proofs.Piece.{length-tops}
 use Rattle.paper_laws.proofs.Marks.{length-marked, at-held, on-marked, marked-agree, next-stays, last-stays}
 use Rattle.paper_laws.proofs.Marks.{lines-inside, along-on, next-small, along-next-small}
+use Rattle.paper_laws.proofs.Sheet.{sheet, sheet-chart, border-lines}
+use Rattle.paper_laws.proofs.Along.{Kept, level-map, last-last, along-chart, other-stays, other-other}
 use Rattle.level_lines.proofs.Paper.{drafted, drafted-at}
 use Rattle.level_curves.specs.Keep.{kindAt, large, bends, stands, anchored, keeps}
 use Rattle.level_curves.specs.Link.{ahead, keptAt, starts, lastOf, back, alongNext, alongOther}
+use Rattle.level_curves.specs.Link.{nextAlong, otherAlong, TwoWay}
 use Rattle.table_entries.specs.Trim.{trimmed}
+use Rattle.level_curves.proofs.Flags.{number-once}
 
 -- an entry of a list does not depend on what would stand past its end
 entry-same : (t : List ℕ) (i y z : ℕ) → i < length t → getD t i y ≡ getD t i z
@@ -48,12 +55,6 @@ all-larges = refl
 all-bends : each 1 1 bending ≡ true
 unfolding becomesOf becomes impossible kind without degree inline bits has half turned
 all-bends = refl
-
-number-once : (a b : Bool) → number a ≡ number b → a ≡ b
-number-once true true e = refl
-number-once true false e = absurd (omega arith)
-number-once false true e = absurd (omega arith)
-number-once false false e = refl
 
 module _ (w h : ℕ) (o : ℕ → Bool) where
   m : List ℕ
@@ -150,24 +151,33 @@ module _ (w h : ℕ) (o : ℕ → Bool) (l : Lines w h o) (room : slots w h ≤ 
   unfolding starts along
   starts-paper d = ap (λ b. b && keep (point d)) (x-on d)
 
+  module _ (d : ℕ) (e : starts x k d ≡ true) where
+    from-line : o d ≡ true
+    from-line = along-on w h o l keep d (sym (starts-paper d) ∙ e)
+
+    last-line : o (last w h o keep d) ≡ true
+    last-line = last-stays w h o l keep d from-line
+
+    next-paper : at x (lastOf (slots w h) x k d) ≡ a .next d
+    unfolding along
+    next-paper = ap (at x) (last-paper d from-line) ∙ x-at (last w h o keep d) last-line
+
+    other-paper : back x (lastOf (slots w h) x k d) ≡ a .other d
+    unfolding along back ahead reversal
+    other-paper =
+        let f = last w h o keep d in
+        ap (back x) (last-paper d from-line)
+        ∙ ap (λ p. dart p (turned (direction f) 2)) (ap point (x-at f last-line) ∙ point-next w o f (l .back f last-line))
+
   pub alongNext-paper : alongNext w h x k ≡ marked w h (a .on) (a .next)
-  unfolding alongNext along
+  unfolding alongNext
   alongNext-paper =
-      marked-agree w h (starts x k) (a .on) (λ d. at x (lastOf (slots w h) x k d)) (a .next) starts-paper
-      (λ d e.
-      let q = along-on w h o l keep d (sym (starts-paper d) ∙ e) in
-      ap (at x) (last-paper d q) ∙ x-at (last w h o keep d) (last-stays w h o l keep d q))
+      marked-agree w h (starts x k) (a .on) (λ d. at x (lastOf (slots w h) x k d)) (a .next) starts-paper next-paper
 
   pub alongOther-paper : alongOther w h x k ≡ marked w h (a .on) (a .other)
-  unfolding alongOther along back ahead reversal
+  unfolding alongOther
   alongOther-paper =
-      marked-agree w h (starts x k) (a .on) (λ d. back x (lastOf (slots w h) x k d)) (a .other) starts-paper
-      (λ d e.
-      let q = along-on w h o l keep d (sym (starts-paper d) ∙ e) in
-      let f = last w h o keep d in
-      let r = last-stays w h o l keep d q in
-      ap (back x) (last-paper d q)
-      ∙ ap (λ p. dart p (turned (direction f) 2)) (ap point (x-at f r) ∙ point-next w o f (l .back f r)))
+      marked-agree w h (starts x k) (a .on) (λ d. back x (lastOf (slots w h) x k d)) (a .other) starts-paper other-paper
 
   side-marked : (y s : List ℕ) → length s ≡ slots w h → trimmed y s ≡ marked w h (on y) (at s)
   unfolding trimmed marked
@@ -184,3 +194,79 @@ module _ (w h : ℕ) (o : ℕ → Bool) (l : Lines w h o) (room : slots w h ≤ 
       held =
           on-marked w h (a .on) (a .next) (λ d e. lines-inside w h o l d (along-on w h o l keep d e))
           (along-next-small w h o l room keep)
+
+-- A run between kept points is the same run back from its other end.
+module _ (w h : ℕ) (n : List ℕ) (room : slots w h ≤ mark) (k : List ℕ) (g : Kept w h n (keptAt k)) where
+  b : ℕ → Bool
+  b = border w h n
+
+  lines : Lines w h b
+  unfolding b
+  lines = border-lines w h n
+
+  level1 : List ℕ
+  unfolding b
+  level1 = marked w h b (next w b)
+
+  curves : Level
+  unfolding b
+  curves = along w h b (keptAt k)
+
+  curves-chart : Chart (level-map w h n curves)
+  unfolding curves
+  curves-chart = along-chart w h n (keptAt k) g
+
+  starts-curve : (d : ℕ) → starts level1 k d ≡ curves .on d
+  unfolding level1 curves
+  starts-curve = starts-paper w h b lines room k
+
+  module _ (d : ℕ) (e : starts level1 k d ≡ true) where
+    next-curve : nextAlong (slots w h) level1 k d ≡ curves .next d
+    unfolding nextAlong level1 curves
+    next-curve = rw e (next-paper w h b lines room k d e)
+
+    other-curve : otherAlong (slots w h) level1 k d ≡ curves .other d
+    unfolding otherAlong level1 curves
+    other-curve = rw e (other-paper w h b lines room k d e)
+
+    on-curve : curves .on d ≡ true
+    on-curve = sym (starts-curve d) ∙ e
+
+    other-starts : starts level1 k (curves .other d) ≡ true
+    other-starts = starts-curve (curves .other d) ∙ other-stays w h n curves curves-chart d on-curve
+
+    line-curve : b d ≡ true
+    unfolding level1
+    line-curve = from-line w h b lines room k d e
+
+    last-back : last w h b (keptAt k) (curves .other d) ≡ reversal w d
+    unfolding curves along sheet b starts
+    last-back =
+        last-last w h n (keptAt k) (curves .other d)
+        ∙ ap (λ f. last′ (sheet w h n) (keptAt k) (reversal w f)) (last-last w h n (keptAt k) d)
+        ∙ last-other (sheet-chart w h n) (g .covers) (g .passes) d line-curve (and-right (on level1 d) _ e)
+
+    next-back : curves .next (curves .other d) ≡ at level1 (reversal w d)
+    unfolding curves along level1
+    next-back =
+        ap (next w b) last-back
+        ∙ sym (x-at w h b lines room k (reversal w d) (lines .back d line-curve))
+
+  pub two-way : TwoWay w (slots w h) (marked w h (border w h n) (next w (border w h n))) k
+  unfolding level1 b
+  two-way =
+      record {
+        stays = λ d e.
+            let f = sym (x-on w h b lines room k d) ∙ e in
+            ap (on level1) (x-at w h b lines room k d f)
+            ∙ x-on w h b lines room k (next w b d)
+            ∙ next-stays w h b lines d f;
+        other-back = λ d e.
+            ap (otherAlong (slots w h) level1 k) (other-curve d e)
+            ∙ other-curve (curves .other d) (other-starts d e)
+            ∙ other-other w h n curves curves-chart d (on-curve d e);
+        next-back = λ d e.
+            ap (nextAlong (slots w h) level1 k) (other-curve d e)
+            ∙ next-curve (curves .other d) (other-starts d e)
+            ∙ next-back d e;
+      }

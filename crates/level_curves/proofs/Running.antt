@@ -2,7 +2,7 @@
 --   lastOf n x k d  == the last dart of the run from d along x, looked for n steps far
 --   Running n x k s i d a == with i steps left, the run from s is that from d, and a is next of d
 use mathlib.Core.Path.{_≡_, refl, sym, ap, _∙_}
-use mathlib.Core.Bool.{true, false, cond, and-false}
+use mathlib.Core.Bool.{true, false}
 use mathlib.Core.List.{List}
 use mathlib.Core.Logic.{_≢_}
 use Prim.Native.Nat.{ℕ, suc, _-_, _≤_, _<_}
@@ -10,9 +10,9 @@ use native.Mathlib.Omega.{arith}
 use borrow.Author.Tests.{eq-eqb, ne-eqb}
 use Rattle.laws.specs.Run.{run}
 use Rattle.laws.proofs.Walk.{run-stop, run-go}
-use Rattle.point_darts.specs.Dart.{mark, dart, point, direction, turned}
-use Rattle.paper.specs.Joining.{at, on}
-use Rattle.level_curves.specs.Link.{ahead, keptAt, starts, lastOf, back}
+use Rattle.point_darts.specs.Dart.{point}
+use Rattle.paper.specs.Joining.{at}
+use Rattle.level_curves.specs.Link.{ahead, keptAt, lastOf}
 
 pub record Running (n : ℕ) (x k : List ℕ) (s i d a : ℕ) : Type 0 where
   pub same : lastOf n x k s ≡ lastOf i x k d
@@ -54,33 +54,3 @@ module _ (n : ℕ) (x k : List ℕ) (s : ℕ) where
     pub running-out : i ≤ 0 → (d ≡ lastOf n x k s) × (a ≡ at x d)
     unfolding lastOf run
     running-out h = let z : i ≡ 0 = omega arith in (sym (r .same ∙ rw z refl), r .after)
-
--- Where a dart starts no run.
-module _ (x k : List ℕ) (d : ℕ) where
-  off-start : at x d ≡ mark → starts x k d ≡ false
-  unfolding starts on
-  off-start e = rw (eq-eqb _ mark e)
-
-  out-start : at k (point d) ≢ 1 → starts x k d ≡ false
-  unfolding starts keptAt
-  out-start f = rw (ne-eqb _ 1 f) (and-false (on x d))
-
-  in-start : at x d ≢ mark → at k (point d) ≡ 1 → starts x k d ≡ true
-  unfolding starts on keptAt
-  in-start e f = rw (ne-eqb _ mark e, eq-eqb _ 1 f)
-
-  pub starts-off : (v y z : ℕ) → v ≡ at x d → v ≡ mark
-      → (mark ≡ cond (starts x k d) y mark) × (mark ≡ cond (starts x k d) z mark)
-  starts-off v y z e f = rw (off-start (sym e ∙ f)) (refl, refl)
-
-  pub starts-out : (u y z : ℕ) → u ≡ at k (point d) → u ≢ 1
-      → (mark ≡ cond (starts x k d) y mark) × (mark ≡ cond (starts x k d) z mark)
-  starts-out u y z g h = rw (out-start (λ q. h (g ∙ q))) (refl, refl)
-
-  pub starts-in : (n v u l a : ℕ) → v ≡ at x d → v ≢ mark → u ≡ at k (point d) → u ≡ 1
-      → l ≡ lastOf n x k d → a ≡ at x l
-      → (a ≡ cond (starts x k d) (at x (lastOf n x k d)) mark)
-      × (dart (point a) (turned (direction l) 2) ≡ cond (starts x k d) (back x (lastOf n x k d)) mark)
-  unfolding back ahead
-  starts-in n v u l a e f g h p q =
-      rw (in-start (λ r. f (e ∙ r)) (sym g ∙ h), ← p, ← q) (refl, refl)

@@ -7,12 +7,19 @@
 --   back x d        == the reversal of dart d
 --   alongNext ..   == the table of next; the mark where no dart starts
 --   alongOther ..  == the table of other, likewise
-use mathlib.Core.Bool.{Bool, _&&_}
+--   nextAlong, otherAlong == their entries
+--   TwoWay w n x k  == a run is the same run back from its other end
+--   Linking .. d y o == the tables y and o are being filled with next and other: every dart before d has its links, each from
+--                      d on has them or the mark
+use mathlib.Core.Path.{_≡_}
+use mathlib.Core.Bool.{Bool, true, cond, _&&_}
 use mathlib.Core.List.{List}
-use Prim.Native.Nat.{ℕ}
+use mathlib.Core.Logic.{_⊎_}
+use Prim.Native.Nat.{ℕ, _+_, _*_, _≤_, _<_}
 use lib.Dec.{eqb}
+use lib.ListN.{length}
 use Rattle.laws.specs.Run.{run}
-use Rattle.point_darts.specs.Dart.{slots, dart, point, direction, turned}
+use Rattle.point_darts.specs.Dart.{mark, slots, dart, point, direction, turned, reversal}
 use Rattle.paper.specs.Level.{marked}
 use Rattle.paper.specs.Joining.{at, on}
 
@@ -37,3 +44,24 @@ alongNext w h x k = marked w h (starts x k) (λ d. at x (lastOf (slots w h) x k 
 
 unfoldable pub alongOther : ℕ → ℕ → List ℕ → List ℕ → List ℕ
 alongOther w h x k = marked w h (starts x k) (λ d. back x (lastOf (slots w h) x k d))
+
+unfoldable pub nextAlong : ℕ → List ℕ → List ℕ → ℕ → ℕ
+nextAlong n x k d = cond (starts x k d) (at x (lastOf n x k d)) mark
+
+unfoldable pub otherAlong : ℕ → List ℕ → List ℕ → ℕ → ℕ
+otherAlong n x k d = cond (starts x k d) (back x (lastOf n x k d)) mark
+
+pub record TwoWay (w n : ℕ) (x k : List ℕ) : Type 0 where
+  pub stays : (d : ℕ) → on x d ≡ true → on x (at x d) ≡ true
+  pub other-back : (d : ℕ) → starts x k d ≡ true → otherAlong n x k (otherAlong n x k d) ≡ d
+  pub next-back : (d : ℕ) → starts x k d ≡ true → nextAlong n x k (otherAlong n x k d) ≡ at x (reversal w d)
+
+pub record Linking (w n : ℕ) (x k : List ℕ) (d : ℕ) (y o : List ℕ) : Type 0 where
+  pub runs : TwoWay w n x k
+  pub fits : n + 4 * (w + 2) ≤ mark
+  pub lines : length x ≡ n
+  pub points : 4 * length k ≡ n
+  pub nexts : length y ≡ n
+  pub others : length o ≡ n
+  pub entry : (s : ℕ) → s < n
+      → ((at y s ≡ nextAlong n x k s) × (at o s ≡ otherAlong n x k s)) ⊎ ((d ≤ s) × (at y s ≡ mark) × (at o s ≡ mark))

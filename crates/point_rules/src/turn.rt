@@ -324,7 +324,7 @@ pub fn point_table() -> [u16; 256]
 }
 
 // What the point table says of each mask where no line is taken. It is written out, since a table is built anew where it
-// is named, and a drawing names this one at each pass over its points.
+// is named.
 pub fn kinds() -> [u16; 16]
     ensures { λ r. ⌜ r ≡ kinding ⌝ }
 {

@@ -4,7 +4,7 @@ use mathlib.Core.Path.{_≡_, refl, sym, _∙_}
 use mathlib.Core.List.{List}
 use Prim.Native.Nat.{ℕ, _+_, _≤_, _<_}
 use native.Mathlib.Nat.{not-suc-le-zero}
-use native.Mathlib.Decide.{ℕ-discrete}
+use native.Mathlib.Decide.{ℕ-discrete, decLe}
 use native.Mathlib.Omega.{arith}
 use lib.ListN.{length, getD, set, length-set}
 use lib.Seq.{ext-getD, getD-set-same, getD-set-other}
@@ -36,6 +36,15 @@ module _ (n : ℕ) (f : ℕ → ℕ) where
           rest = λ k h. getD-set-other t i k v 0 (omega arith) ∙ r .rest k (omega arith);
           long = length-set t i v ∙ r .long;
         }
+
+    -- up to j, where the entries were those of f before
+    pub filled-on : (j : ℕ) → i ≤ j → ((k : ℕ) → i ≤ k → k < j → getD o k 0 ≡ f k) → Filled n f j o t
+    filled-on j b e =
+        record { done = λ k h. go k h (decLe i k); rest = λ k h. r .rest k (omega arith); long = r .long }
+      where
+        go : (k : ℕ) → k < j → Dec (i ≤ k) → getD t k 0 ≡ f k
+        go k h (yes l) = r .rest k l ∙ e k l h
+        go k h (no l) = r .done k (omega arith)
 
     -- all entries
     pub filled-all : n ≤ i → t ≡ table n f

@@ -4,4 +4,5 @@ pub mod Filled
 pub mod Front
 pub mod Half
 pub mod Passed
+pub mod Rowed
 pub mod Same

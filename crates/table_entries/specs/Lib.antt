@@ -1,2 +1,3 @@
 pub mod Pointed
+pub mod Row
 pub mod Trim

@@ -54,15 +54,22 @@ pub fn put_four(table: &mut [u16], point: u16, east: u16, south: u16, west: u16,
     table[i + 3] = north;
 }
 
+// Sets every entry of a table to one value.
+pub fn fill(table: &mut [u16], each: u16)
+    ensures { λ _. ⌜ now (table .exit) ≡ replicate (length (now (table .entry))) each ⌝ }
+{
+    let mut i = 0;
+    while i < table.len() {
+        table[i] = each;
+        i += 1;
+    }
+}
+
 // Sets every entry of a table to 0.
 pub fn clear(table: &mut [u16])
     ensures { λ _. ⌜ now (table .exit) ≡ replicate (length (now (table .entry))) 0 ⌝ }
 {
-    let mut i = 0;
-    while i < table.len() {
-        table[i] = 0;
-        i += 1;
-    }
+    fill(table, 0);
 }
 
 // Sets every entry of four tables to 0.
@@ -78,7 +85,7 @@ pub fn clear_four(a: &mut [u16], b: &mut [u16], c: &mut [u16], d: &mut [u16])
     clear(d);
 }
 
-// Whether two tables have the same entries.
+// Whether two tables have the same entries. Every entry is compared, so that the compiler takes many at a time.
 pub fn same(left: &[u16], right: &[u16]) -> bool
     ensures { λ r. ⌜ r ≡ equal (now (left .entry)) (now (right .entry)) ⌝ }
 {
@@ -86,14 +93,13 @@ pub fn same(left: &[u16], right: &[u16]) -> bool
     if right.len() != n {
         return false;
     }
-    let mut i: usize = 0;
+    let mut agree = true;
+    let mut i = 0;
     while i < n {
-        if left[i] != right[i] {
-            return false;
-        }
+        agree = agree & (left[i] == right[i]);
         i += 1;
     }
-    true
+    agree
 }
 
 // Whether two pairs of tables have the same entries.

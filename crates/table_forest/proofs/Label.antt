@@ -4,16 +4,21 @@
 --   Halved i t u x  == the forest t has become u on the way from node i to node x of its tree
 --   Flattened t u i == the forest t has become u, in which each node below i leads to its root at once
 --   lower a b       == the larger of the labels a and b becomes the smaller
-use mathlib.Core.Path.{_≡_, refl, sym, ap, _∙_}
+--   entry i j t     == the entry of node j in the forest t once node i has sprouted
+use mathlib.Core.Path.{_≡_, refl, sym, _∙_}
+use mathlib.Core.Bool.{Bool, true, false, cond}
 use mathlib.Core.List.{List, map}
 use mathlib.Core.Logic.{_⊎_, inl, inr, ⊎-elim, _≢_}
 use Prim.Native.Nat.{ℕ, suc, _+_, _≤_, _<_, zero-le, min, max}
 use native.Mathlib.Nat.{le-refl, not-suc-le-zero, eq-or-lt-of-le}
+use native.Mathlib.Decide.{decLe}
 use native.Mathlib.Omega.{arith}
+use lib.Dec.{eqb}
+use borrow.Author.Tests.{eqb-true}
 use lib.ListN.{length, getD, set, length-set, length-map}
 use lib.Seq.{ext-getD}
 use Rattle.laws.specs.Least.{lower, tie}
-use Rattle.laws.proofs.Least.{lower-cases, lower-le, lower-other, getD-lower}
+use Rattle.laws.proofs.Least.{lower-cases, lower-le, lower-left, lower-other, getD-lower, tie-one, tie-same, tie-idle, tie-again}
 use Rattle.table_entries.proofs.Entries.{set-cases}
 use Rattle.table_forest.specs.Forest.{Leads, Labels, Forest, Grown, Planted, Found}
 
@@ -22,6 +27,22 @@ module _ (l : List ℕ) where
   -- a node that is its own label may lead to itself
   leads-self : (k : ℕ) → getD l k 0 ≡ k → Leads l k k
   leads-self k e = record { down = le-refl k; same = refl; root = λ d. e }
+
+  -- a node may lead to its label at once
+  leads-root : (k r : ℕ) → r ≤ k → getD l k 0 ≡ r → getD l r 0 ≡ r → Leads l k r
+  leads-root k r d u v = record { down = d; same = v ∙ sym u; root = λ e. u ∙ e }
+
+  -- the smaller of two roots is a root
+  smaller-root : (x y r : ℕ) → r ≡ min x y → getD l x 0 ≡ x → getD l y 0 ≡ y → getD l r 0 ≡ r
+  smaller-root x y r e u v = go (decLe x y)
+    where
+      go : Dec (x ≤ y) → getD l r 0 ≡ r
+      go (yes h) =
+          let p : r ≡ x = omega arith in
+          rw p u
+      go (no h) =
+          let p : r ≡ y = omega arith in
+          rw p v
 
   -- the entry of an entry is an entry
   leads-then : (k e d : ℕ) → Leads l k e → Leads l e d → Leads l k d
@@ -37,22 +58,27 @@ module _ (l : List ℕ) where
       ⊎-elim (λ p. rw (p .1, p .0) e) (λ p. rw (p .1) (f k h (p .0))) (set-cases t x q k b)
 
 module _ (m : ℕ) (l t : List ℕ) (f : Forest m l t) where
-  -- a node is led past its entry
-  halve : (x : ℕ) → x < m → Forest m l (set t x (getD t (getD t x 0) 0))
-  halve x h =
-      let e = f .leads x h in
-      let d = e .down in
-      let g = leads-then l x (getD t x 0) (getD t (getD t x 0) 0) e (f .leads (getD t x 0) (omega arith)) in
+  -- a node gets another entry
+  led-anew : (x e : ℕ) → x < m → Leads l x e → Forest m l (set t x e)
+  led-anew x e h g =
       let r = f .room in
       record {
         sized = rw length-set (f .sized);
         room = rw length-set (f .room);
         labels = f .labels;
-        leads = leads-set l m x (getD t (getD t x 0) 0) t (omega arith) g (λ k b n. f .leads k b);
+        leads = leads-set l m x e t (omega arith) g (λ k b n. f .leads k b);
       }
 
+  -- a node is led past its entry
+  halve : (x : ℕ) → x < m → Forest m l (set t x (getD t (getD t x 0) 0))
+  halve x h =
+      let e = f .leads x h in
+      let d = e .down in
+      led-anew x (getD t (getD t x 0) 0) h
+      (leads-then l x (getD t x 0) (getD t (getD t x 0) 0) e (f .leads (getD t x 0) (omega arith)))
+
   -- the next node is new: it leads to itself
-  pub sprout : m < length t → Forest (suc m) l (set t m m)
+  sprout : m < length t → Forest (suc m) l (set t m m)
   sprout h =
       let s = f .sized in
       record {
@@ -83,12 +109,12 @@ module _ (l : List ℕ) (a b x y : ℕ) (p : x ≡ max a b) (q : y ≡ min a b) 
             rw getD-lower (⊎-elim (λ d. omega arith) (λ d. omega arith) (lower-cases a b (getD l k 0)));
       }
 
-  -- the larger leads to the smaller
-  leads-larger : getD l x 0 ≡ x → getD l y 0 ≡ y → Leads (map (lower a b) l) x y
-  leads-larger u v =
+  -- the larger leads to a node whose label is the smaller
+  leads-larger : (e : ℕ) → e ≤ x → getD l x 0 ≡ x → getD l e 0 ≡ y → Leads (map (lower a b) l) x e
+  leads-larger e d u v =
       record {
-        down = omega arith;
-        same = cc (getD-lower a b l x, getD-lower a b l y, lower-larger, lower-smaller);
+        down = d;
+        same = cc (getD-lower a b l x, getD-lower a b l e, lower-larger, lower-smaller);
         root = λ d. cc (getD-lower a b l x, lower-larger);
       }
 
@@ -101,15 +127,15 @@ module _ (l : List ℕ) (a b x y : ℕ) (p : x ≡ max a b) (q : y ≡ min a b) 
             rw (getD-lower, e) (lower-other a b k (omega arith) (omega arith));
       }
 
-  pub linked : (m : ℕ) (t : List ℕ) → Forest m l t → x < m → getD l x 0 ≡ x → getD l y 0 ≡ y
-      → Forest m (map (lower a b) l) (set t x y)
-  linked m t f h u v =
+  pub linked : (m : ℕ) (t : List ℕ) → Forest m l t → x < m → (e : ℕ) → e ≤ x → getD l x 0 ≡ x → getD l e 0 ≡ y
+      → Forest m (map (lower a b) l) (set t x e)
+  linked m t f h e d u v =
       let r = f .room in
       record {
         sized = rw (length-set, length-map) (f .sized);
         room = rw length-set (f .room);
         labels = labels-lower m h (f .labels);
-        leads = leads-set (map (lower a b) l) m x y t (omega arith) (leads-larger u v)
+        leads = leads-set (map (lower a b) l) m x e t (omega arith) (leads-larger e d u v)
             (λ k d n. leads-lower k (getD t k 0) n (f .leads k d));
       }
 
@@ -170,59 +196,114 @@ halved-again i t u x h o =
 abbrev planted : (i j : ℕ) (l t : List ℕ) → j ≤ i → Forest (suc i) l t → Planted j t
 planted i j l t d f = record { nodes = suc i; labels = l; below = omega arith; forest = f }
 
--- Node i more, in one tree with j and k: it sprouts, leads to the root a of j, and is linked with the root b of k.
+abbrev entry : ℕ → ℕ → List ℕ → ℕ
+entry i j t = getD (set t i i) j 0
+
+-- Node i more, in one tree with j and k: it sprouts and leads to the entry of j. Where the entry of k differs, the roots x and
+-- y of the two entries are linked, and it leads to the smaller.
 module _ (i j k : ℕ) (t : List ℕ) (g : Grown i t) (h : i < length t) (d : j ≤ i) (e : k ≤ i) where
-  abbrev pub sprouted : Planted j (set t i i)
-  sprouted = planted i j (g .labels) (set t i i) d (sprout i (g .labels) t (g .forest) h)
+  sprouted : Forest (suc i) (g .labels) (set t i i)
+  sprouted = sprout i (g .labels) t (g .forest) h
 
   own : getD (g .labels) i 0 ≡ i
   own = let s = g .forest .sized in g .forest .labels .new i (le-refl i) (omega arith)
 
-  module _ (u : List ℕ) (a : ℕ) (f : Found (suc i) (g .labels) j u a) where
-    root-le : a ≤ i
-    root-le = omega (arith, f .label, f .forest .labels .low j)
+  leads-first : Leads (g .labels) j (entry i j t)
+  leads-first = sprouted .leads j (omega arith)
 
-    larger : i ≡ max i a
-    larger = omega (arith, root-le)
+  leads-second : Leads (g .labels) k (entry i k t)
+  leads-second = sprouted .leads k (omega arith)
 
-    smaller : a ≡ min i a
-    smaller = omega (arith, root-le)
+  pub first-entry-le : entry i j t ≤ i
+  first-entry-le = omega (arith, leads-first .down)
 
-    tied-labels : tie i j (g .labels) ≡ map (lower i a) (g .labels)
-    unfolding tie
-    tied-labels = rw (own, f .label)
+  pub second-entry-le : entry i k t ≤ i
+  second-entry-le = omega (arith, leads-second .down)
 
-    pub led : Found (suc i) (tie i j (g .labels)) i (set u i a) a
-    led =
-        let l = g .labels in
-        let p = lower-larger l i a i a larger smaller in
-        let q = lower-smaller l i a i a larger smaller in
-        rw tied-labels
-        (record {
-          forest = linked l i a i a larger smaller (suc i) u (f .forest) (le-refl (suc i)) own (f .root);
-          label = sym (getD-lower i a l i ∙ ap (lower i a) own ∙ p);
-          root = getD-lower i a l a ∙ ap (lower i a) (f .root) ∙ q;
-        })
+  pub led : Forest (suc i) (tie i j (g .labels)) (set (set t i i) i (entry i j t))
+  unfolding tie
+  led =
+      let l = g .labels in
+      let r = getD l j 0 in
+      let s : r ≤ i = omega (arith, g .forest .labels .low j) in
+      rw own
+      (linked l i r i r (omega arith) (omega arith) (suc i) (set t i i) sprouted (le-refl (suc i))
+      (entry i j t) first-entry-le own (leads-first .same))
 
-    abbrev pub led-planted : Planted k (set u i a)
-    led-planted = planted i k (tie i j (g .labels)) (set u i a) e (led .forest)
+  -- the entries have the labels of i and k
+  label-first : getD (tie i j (g .labels)) (entry i j t) 0 ≡ getD (tie i j (g .labels)) i 0
+  label-first = tie-same i j (g .labels) (entry i j t) j (leads-first .same) ∙ sym (tie-one i j (g .labels))
 
-    module _ (v : List ℕ) (b : ℕ) (c : Found (suc i) (tie i j (g .labels)) k v b) where
-      roots-below : (a < suc i) × (b < suc i)
-      roots-below = omega (arith, root-le, c .label, c .forest .labels .low k)
+  label-second : getD (tie i j (g .labels)) (entry i k t) 0 ≡ getD (tie i j (g .labels)) k 0
+  label-second = tie-same i j (g .labels) (entry i k t) k (leads-second .same)
 
-      pub roots-room : (a < length v) × (b < length v)
+  -- where the entries are one, so are these labels
+  pub tied-alike : entry i j t ≡ entry i k t
+      → Forest (suc i) (tie i k (tie i j (g .labels))) (set (set t i i) i (entry i j t))
+  tied-alike o =
+      let l = tie i j (g .labels) in
+      let s : getD l i 0 ≡ getD l k 0 = cc (label-first, label-second) in
+      rw (tie-idle i k l s) led
+
+  abbrev pub led-planted : Planted (entry i j t) (set (set t i i) i (entry i j t))
+  led-planted = planted i (entry i j t) (tie i j (g .labels)) (set (set t i i) i (entry i j t)) first-entry-le led
+
+  module _ (u : List ℕ) (x : ℕ) (f : Found (suc i) (tie i j (g .labels)) (entry i j t) u x) where
+    abbrev pub found-planted : Planted (entry i k t) u
+    found-planted = planted i (entry i k t) (tie i j (g .labels)) u second-entry-le (f .forest)
+
+    module _ (v : List ℕ) (y : ℕ) (c : Found (suc i) (tie i j (g .labels)) (entry i k t) v y) where
+      roots-below : (x < suc i) × (y < suc i)
+      roots-below =
+          let w = c .forest .labels .low in
+          omega (arith, first-entry-le, second-entry-le, f .label, c .label, w (entry i j t), w (entry i k t))
+
+      pub roots-room : (x < length v) × (y < length v)
       roots-room = omega (arith, roots-below, c .forest .room)
 
-      pub tied : (w : List ℕ)
-          → ((m : ℕ) (l : List ℕ) → Forest m l v → a < m → b < m → getD l a 0 ≡ a → getD l b 0 ≡ b
-          → Forest m (map (lower a b) l) w)
-          → Forest (suc i) (tie i k (tie i j (g .labels))) w
+      -- the labels of i and k are the two roots
+      roots-tied : tie i k (tie i j (g .labels)) ≡ map (lower x y) (tie i j (g .labels))
       unfolding tie
-      tied w q =
+      roots-tied = rw (← label-first, ← label-second, f .label, c .label)
+
+      -- of which i may lead to the smaller
+      leads-smaller : (r : ℕ) → r ≡ min x y → Leads (map (lower x y) (tie i j (g .labels))) i r
+      leads-smaller r o =
           let l = tie i j (g .labels) in
-          let r = q (suc i) l (c .forest) (roots-below .0) (roots-below .1) (led .root) (c .root) in
-          rw (led .label, c .label) at r
+          let p = lower-smaller l x y (max x y) r refl o in
+          leads-root (map (lower x y) l) i r (omega (arith, roots-below))
+          (cc (getD-lower x y l i, label-first, f .label, lower-left x y))
+          (cc (getD-lower x y l r, smaller-root l x y r o (f .root) (c .root)))
+
+      pub tied : (w : List ℕ) (r : ℕ) → r ≡ min x y
+          → ((m : ℕ) (l : List ℕ) → Forest m l v → x < m → y < m → getD l x 0 ≡ x → getD l y 0 ≡ y
+          → Forest m (map (lower x y) l) w)
+          → Forest (suc i) (tie i k (tie i j (g .labels))) (set w i r)
+      tied w r o q =
+          let l = tie i j (g .labels) in
+          let s = q (suc i) l (c .forest) (roots-below .0) (roots-below .1) (f .root) (c .root) in
+          rw roots-tied (led-anew (suc i) (map (lower x y) l) w s i r (le-refl (suc i)) (leads-smaller r o))
+
+-- One of j and k that is node i itself is stood in for by the other.
+pub instead-le : (i j k r : ℕ) → j ≤ i → k ≤ i → r ≡ cond (eqb j i) k j → r ≤ i
+instead-le i j k r d e p = go (eqb j i) p
+  where
+    go : (b : Bool) → r ≡ cond b k j → r ≤ i
+    go true q = omega arith
+    go false q = omega arith
+
+tie-instead : (i j k : ℕ) (l : List ℕ) → tie i (cond (eqb k i) j k) (tie i (cond (eqb j i) k j) l) ≡ tie i k (tie i j l)
+tie-instead i j k l = go (eqb j i) (eqb k i) refl refl
+  where
+    go : (b c : Bool) → eqb j i ≡ b → eqb k i ≡ c → tie i (cond c j k) (tie i (cond b k j) l) ≡ tie i k (tie i j l)
+    go true true p q = rw (eqb-true j i p, eqb-true k i q)
+    go true false p q = rw (eqb-true j i p, tie-idle i i l refl) (tie-again i k l)
+    go false true p q = rw (eqb-true k i q, tie-idle i i (tie i j l) refl) (tie-again i j l)
+    go false false p q = refl
+
+pub tied-instead : (i j k x y m : ℕ) (l t : List ℕ) → x ≡ cond (eqb j i) k j → y ≡ cond (eqb k i) j k
+    → Forest m (tie i y (tie i x l)) t → Forest m (tie i k (tie i j l)) t
+tied-instead i j k x y m l t p q f = rw (p, q, tie-instead i j k l) at f
 
 -- On the way to a table of labels.
 pub record Flattened (t u : List ℕ) (i : ℕ) : Type 0 where

@@ -1,6 +1,8 @@
 ghost use mathlib.Core.Path.{_≡_};
+ghost use mathlib.Core.Bool.{cond};
 ghost use mathlib.Core.List.{List, map};
-ghost use Prim.Native.Nat.{ℕ, suc, _<_, _≤_};
+ghost use Prim.Native.Nat.{ℕ, suc, _<_, _≤_, min};
+ghost use lib.Dec.{eqb};
 ghost use lib.ListN.{length, getD};
 ghost use Rattle.laws.specs.Least.{lower, tie};
 ghost use Rattle.table_forest.specs.Forest.{Forest, Grown, Planted, Found};
@@ -24,22 +26,34 @@ fn find(nodes: &mut [u16], i: u16) -> u16
     }
 }
 
-// Two roots become one tree: the larger leads to the smaller.
-fn link(nodes: &mut [u16], a: u16, b: u16)
+// Two roots become one tree: the larger leads to the smaller, which is the answer.
+fn link(nodes: &mut [u16], a: u16, b: u16) -> u16
     requires { ⌜ (a < length (now nodes)) × (b < length (now nodes)) ⌝ }
-    ensures { λ _. ⌜
+    ensures smaller { λ r. ⌜ r ≡ min a b ⌝ }
+    ensures linked { λ _. ⌜
         ((m : ℕ) (l : List ℕ) → Forest m l (now (nodes .entry)) → a < m → b < m → getD l a 0 ≡ a → getD l b 0 ≡ b →
         Forest m (map (lower a b) l) (now (nodes .exit)))
         ⌝ }
 {
     if a < b {
         nodes[b as usize] = a;
+        a
     } else {
         nodes[a as usize] = b;
+        b
     }
 }
 
-// A node more, in one tree with two nodes that are no later. The node itself stands for none.
+// Node j, or in its stead node k where j is node i itself.
+fn instead(i: u16, j: u16, k: u16) -> u16
+    ensures { λ r. ⌜ r ≡ cond (eqb j i) k j ⌝ }
+{
+    if j == i { k } else { j }
+}
+
+// A node more, in one tree with two nodes that are no later. The node itself stands for none. Most often the entries of the
+// two are one, and the node gets it; only where they differ are the roots found and linked. Where one of the two is the node
+// itself, the other is taken twice, so that whether the entries differ is all that is hard to foresee.
 pub fn plant(nodes: &mut [u16], i: u16, j: u16, k: u16)
     requires { ⌜ Grown i (now nodes) × (i < length (now nodes)) × (j ≤ i) × (k ≤ i) ⌝ }
     ensures { λ _. ⌜
@@ -48,10 +62,18 @@ pub fn plant(nodes: &mut [u16], i: u16, j: u16, k: u16)
         ⌝ }
 {
     nodes[i as usize] = i;
-    let a = find(nodes, j);
+    let first = instead(i, j, k);
+    let second = instead(i, k, j);
+    let a = nodes[first as usize];
+    let b = nodes[second as usize];
     nodes[i as usize] = a;
-    let b = find(nodes, k);
-    link(nodes, a, b);
+    if a == b {
+        return;
+    }
+    let x = find(nodes, a);
+    let y = find(nodes, b);
+    let root = link(nodes, x, y);
+    nodes[i as usize] = root;
 }
 
 // Each node comes to lead to its root at once.

@@ -5,7 +5,7 @@ use native.Mathlib.Omega.{arith}
 use Rattle.point_darts.proofs.Fit.{cells-fit}
 use Rattle.table_entries.proofs.Front.{front-in, front-long, front-back, back-in, back-long}
 use Rattle.drawing.proofs.Whole.{tops-rising}
-use Rattle.check_call.proofs.Agreeing.{names-part, curves-no, curves-yes}
+use Rattle.check_call.proofs.Agreeing.{names-part, runs-agreed, curves-no, curves-yes}
 use borrow.Author.Needs.{needs}
 use Rattle.check_call.proofs.agree.curves_agree.Statement.{statement}
 use Rattle.check_call.proofs.agree.curves_agree.Tie as tie
@@ -33,7 +33,14 @@ draw-curves-requires : tie.Need-draw-curves-requires
 draw-curves-requires c κs =
     let e = c .before .before .before .before .before .before .before in
     let z = start e in
-    (z .pre .0, (e .keep-points .kept .1 .1 .1 .1 .1 .0) ∙ z .pre .4, z .pre .5, z .pre .3)
+    let q = z .pre in (
+      q .0,
+      (e .keep-points .kept .1 .1 .1 .1 .1 .0) ∙ q .4,
+      q .5,
+      q .3,
+      q .6,
+      runs-agreed _ _ _ _ (q .7) _ _ _ (q .0) (q .8) (e .keep-points .ensures),
+    )
 
 mul-names : tie.Need-mul-names
 mul-names c =
@@ -78,6 +85,7 @@ draw-parents-requires c κs =
       tops-rising _ _ _ _ _ _ (e .keep-points .ensures),
       front-long _ _ (e .keep-points .last .1 .1 .1 .1 .1 .0) ((e .keep-points .kept .1 .1 .1 .1 .1 .0) ∙ z .pre .4)
           (names-part _ _),
+      z .pre .1,
     )
 
 both-same-requires : tie.Need-both-same-requires

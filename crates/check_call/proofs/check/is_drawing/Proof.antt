@@ -1,6 +1,6 @@
 use mathlib.Core.Path.{_∙_}
 use Rattle.table_lengths.proofs.Tested.{stated-slots}
-use Rattle.check_call.proofs.Agreeing.{is-drawing-no, is-drawing-yes}
+use Rattle.check_call.proofs.Agreeing.{agreeing, is-drawing-no, is-drawing-yes}
 use Rattle.check_call.proofs.check.is_drawing.Statement.{statement}
 use Rattle.check_call.proofs.check.is_drawing.Tie as tie
 
@@ -44,7 +44,17 @@ curves-agree-requires c κs =
     let s = stated-slots _ _ _ _ (q .1) in
     let k = l .lines-agree .kept .1 .1 .1 .1 in
     let w = s .1 .1 .1 .1 in
-    (q .0, s .1 .0, k .0 ∙ w .0, k .1 .0 ∙ w .1 .0, k .1 .1 .0 ∙ w .1 .1 .0, k .1 .1 .1 .0 ∙ w .1 .1 .1 .0)
+    let a = l .lines-agree .ensures in (
+      q .0,
+      s .1 .0,
+      k .0 ∙ w .0,
+      k .1 .0 ∙ w .1 .0,
+      k .1 .1 .0 ∙ w .1 .1 .0,
+      k .1 .1 .1 .0 ∙ w .1 .1 .1 .0,
+      s .0,
+      agreeing _ _ _ _ _ (a .0) (c .before .before .before .before .if1 .left),
+      a .1,
+    )
 
 same-length-5 : tie.Need-same-length-5
 same-length-5 c =

@@ -1,7 +1,7 @@
 use mathlib.Core.Path.{refl, sym, _∙_}
 use borrow.Author.Needs.{needs}
 use Rattle.table_entries.proofs.Cleared.{cleared-same}
-use Rattle.drawing.proofs.Whole.{drawing-whole, tops-rising}
+use Rattle.drawing.proofs.Whole.{drawing-runs, drawing-whole, tops-rising}
 use Rattle.drawing.proofs.Refusing.{all-fit, refused, done}
 use Rattle.drawing.proofs.draw.draw.Statement.{statement}
 use Rattle.drawing.proofs.draw.draw.Tie as tie
@@ -82,22 +82,31 @@ keep-points-requires c κs =
 draw-curves-requires : tie.Need-draw-curves-requires
 draw-curves-requires c κs =
     let p = c .before .before .before .before .before .before .before .before in
-    let n = named (lined p) in
+    let l = lined p in
+    let n = named l in
     let k = answered n in
     let f = all-fit _ _ _ _ _ _ (k .before .refusal .ensures) (sym (k .number .ensures) ∙ n .before .before .before .if1 .left) in
-    let d = f .darts .1 .1 in
-    (f .size, p .keep-points .kept .1 .1 .1 .1 .1 .0 ∙ d .1 .1 .1 .1 .0, d .0, d .1 .0)
+    let d = f .darts .1 .1 in (
+      f .size,
+      p .keep-points .kept .1 .1 .1 .1 .1 .0 ∙ d .1 .1 .1 .1 .0,
+      d .0,
+      d .1 .0,
+      l .draw-lines .kept .1 .1 .1 .1 .0 ∙ f .darts .0,
+      drawing-runs _ _ _ (f .size) _ _ _ _ _ _ (n .name-cells .ensures) (l .draw-lines .ensures) (p .keep-points .ensures),
+    )
 
 draw-parents-requires : tie.Need-draw-parents-requires
 draw-parents-requires c κs =
     let p = kept (c .before .before .before .before .before .before .before) in
-    let n = named (lined p) in
+    let l = lined p in
+    let n = named l in
     let k = answered n in
     let f = all-fit _ _ _ _ _ _ (k .before .refusal .ensures) (sym (k .number .ensures) ∙ n .before .before .before .if1 .left) in (
       f .size,
       p .keep-points .kept .1 .1 .1 .1 .0 ∙ n .name-cells .kept .1 .1 .1 .1 .0 ∙ f .darts .1 .1 .1 .1 .1 .0,
       tops-rising _ _ _ _ _ _ (p .keep-points .ensures),
       f .names .0,
+      l .draw-lines .kept .1 .1 .1 .1 .1 .0 ∙ f .darts .1 .0,
     )
 
 clear-four-requires : tie.Need-clear-four-requires
@@ -149,8 +158,8 @@ returns-2 c =
     let k = answered n in
     let z = sym (k .number .ensures) ∙ n .before .before .before .if1 .left in
     done _ _ _ _ _ _ (k .before .refusal .ensures) z _ _
-    (drawing-whole _ _ _ (all-fit _ _ _ _ _ _ (k .before .refusal .ensures) z .size) _ _ _ _ _ _ _ _ _ (n .name-cells .ensures)
-    (l .draw-lines .ensures) (p .keep-points .ensures) (y .draw-curves .ensures) (q .draw-parents .ensures))
+    (drawing-whole _ _ _ (all-fit _ _ _ _ _ _ (k .before .refusal .ensures) z .size) _ _ _ _ _ _ (n .name-cells .ensures)
+    (l .draw-lines .ensures) (p .keep-points .ensures) _ _ _ (y .draw-curves .ensures) (q .draw-parents .ensures))
     (e .clear-four .ensures
     ∙ cleared-same _ _ _ _ _ _ _ _ (l .draw-lines .kept .1 .1 .1 .0 ∙ n .name-cells .kept .1 .1 .1 .0)
     (p .keep-points .kept .1 .1 .1 .1 .0 ∙ n .name-cells .kept .1 .1 .1 .1 .0) (p .keep-points .kept .1 .1 .1 .1 .1 .0) refl)

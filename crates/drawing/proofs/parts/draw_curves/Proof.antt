@@ -1,4 +1,4 @@
-use mathlib.Core.Path.{sym}
+use mathlib.Core.Path.{sym, _∙_}
 use borrow.Author.Needs.{needs}
 use Rattle.table_entries.proofs.Front.{front-long}
 use Rattle.region_names.proofs.Room.{points-part}
@@ -19,8 +19,16 @@ slice-aggregate-links c =
 
 links-requires : tie.Need-links-requires
 links-requires c κs =
-    let q = c .before .before .before .before .before .before .before .before .pre in
-    (q .0, q .2, q .3)
+    let p = c .before .before .before in
+    let s = p .before .before .before .before .before in
+    let e = p .points .ensures in (
+      s .pre .0,
+      s .pre .2,
+      s .pre .3,
+      s .pre .4,
+      front-long _ _ (s .args .kept .now) (s .pre .1) (points-part _ _ _ e) ∙ e,
+      rw e (s .pre .5),
+    )
 
 same-length : tie.Need-same-length
 same-length c = c .before .before .before .before .links .kept .1 .1 .1 .1 .0

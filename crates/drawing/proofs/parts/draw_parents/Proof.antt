@@ -21,8 +21,13 @@ find-parents-requires : tie.Need-find-parents-requires
 find-parents-requires c κs =
     let p = c .before .before in
     let s = p .before .before .before .before in
-    let e = p .points .ensures in
-    (s .pre .0, front-long _ _ (s .args .top .now) (s .pre .1) (points-part _ _ _ e) ∙ e, rw e (s .pre .2), s .pre .3)
+    let e = p .points .ensures in (
+      s .pre .0,
+      front-long _ _ (s .args .top .now) (s .pre .1) (points-part _ _ _ e) ∙ e,
+      rw e (s .pre .2),
+      s .pre .3,
+      s .pre .4,
+    )
 
 same-length : tie.Need-same-length
 same-length c = c .before .before .find-parents .kept .1 .1 .1 .1 .0

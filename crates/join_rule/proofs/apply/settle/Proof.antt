@@ -22,10 +22,16 @@ lower-sides-requires c κs = search needs
 
 find-parents-requires : tie.Need-find-parents-requires
 find-parents-requires c κs =
-    let k = curved (c .before .before .before .before .before) in
+    let l = c .before .before .before .before .before in
+    let k = curved l in
     let q = start k .pre in
-    let s = k .settle-curves in
-    (q .0, s .kept .1 .1 .1 .1 .1 .1 .0 ∙ q .5, tops-rising _ _ _ _ (s .ensures .1), q .4)
+    let s = k .settle-curves in (
+      q .0,
+      s .kept .1 .1 .1 .1 .1 .1 .0 ∙ q .5,
+      tops-rising _ _ _ _ (s .ensures .1),
+      q .4,
+      l .lower-sides .kept .1 .1 .1 .0 ∙ q .2,
+    )
 
 same-length : tie.Need-same-length
 same-length c = lowered (c .before .before) .lower-sides .kept .1 .1 .1 .0

@@ -1,4 +1,5 @@
 use mathlib.Core.Path.{sym, _∙_}
+use Rattle.level_call.proofs.Paper.{runs-level}
 use Rattle.level_call.proofs.Tables.{along-tables}
 use Rattle.level_call.proofs.along.along.Statement.{statement}
 use Rattle.level_call.proofs.along.along.Tie as tie
@@ -50,9 +51,18 @@ keep-points-requires c κs =
 links-requires : tie.Need-links-requires
 links-requires c κs =
     let e = c .before .before .before .before .before .before .before .before in
-    let z = start (masked (linked (sided e))) in
-    let s = z .pre in
-    (s .0, (e .keep-points .kept .1 .1 .1 .1 .1 .0) ∙ s .7, s .8)
+    let k = sided e in
+    let l = linked k in
+    let m = masked l in
+    let s = start m .pre in (
+      s .0,
+      e .keep-points .kept .1 .1 .1 .1 .1 .0 ∙ s .7,
+      s .8,
+      l .nexts .kept .1 .1 .1 .0 ∙ s .4,
+      e .keep-points .kept .1 .1 .1 .1 .1 .1 .0 ∙ s .6,
+      runs-level _ _ _ _ _ _ _ _ (s .0) (s .10) (m .masks .ensures) (l .nexts .ensures) (k .sides .ensures)
+          (e .keep-points .ensures),
+    )
 
 trim-requires : tie.Need-trim-requires
 trim-requires c κs =

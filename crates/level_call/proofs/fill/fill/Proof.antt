@@ -83,6 +83,7 @@ numbered-requires c κs =
     let n = c .before .before .before .before .before .before .before .before .before .before .before in
     let p = sized n in
     let q = start p .pre in
+    let a = start p .args in
     let k = n .name-cells .kept .1 .1 .1 in
     let e = p .points .ensures in (
       q .0,
@@ -94,6 +95,10 @@ numbered-requires c κs =
       q .3,
       q .4,
       q .5,
+      record {
+        sheet = now (a .sheet);
+        names = ap (λ i. take (i + a .width + 2) (n .name-cells .last .1 .1 .1 .1 .0)) e ∙ n .name-cells .ensures;
+      },
     )
 
 clear-four-requires : tie.Need-clear-four-requires

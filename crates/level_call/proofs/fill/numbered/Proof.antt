@@ -27,7 +27,7 @@ along-requires c κs =
     let b14 = c .before .before .before .before .before .before .before .before .before .before .before .before .before in
     let z = b14 .before in
     let s = z .pre in
-    (s .0, c .before .before .before .before .before .before .if1 .left, s .1, s .2, s .3, s .4, s .5, s .6, s .7, s .8)
+    (s .0, c .before .before .before .before .before .before .if1 .left, s .1, s .2, s .3, s .4, s .5, s .6, s .7, s .8, s .9)
 
 same-length-5 : tie.Need-same-length-5
 same-length-5 c =

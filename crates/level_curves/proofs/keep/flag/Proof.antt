@@ -1,53 +1,85 @@
-use Rattle.table_entries.proofs.Entries.{at-entry}
-use mathlib.Core.Logic.{⊎-elim}
-use Rattle.laws.proofs.Table.{length-table}
-use Rattle.level_curves.proofs.Flags.{flags, flags-none, flag-large, flag-small}
-use lib.ListN.{length}
-use mathlib.Core.Path.{_≡_, refl, sym, _∙_, ap}
+use mathlib.Core.Path.{_≡_, refl, sym, ap, _∙_}
 use Prim.Native.Nat.{_-_, _≤_, zero-le}
-use borrow.Author.Needs.{needs}
 use native.Mathlib.Omega.{arith}
+use lib.ListN.{length, getD}
+use borrow.Author.Needs.{needs}
+use Rattle.laws.specs.Table.{table, number}
+use Rattle.level_curves.specs.Keep.{large}
+use Rattle.level_curves.proofs.Flags.{flags, flags-none, flags-long, back-le, number-le, flag-own, flags-next}
 use Rattle.level_curves.proofs.keep.flag.Statement.{statement}
 use Rattle.level_curves.proofs.keep.flag.Tie as tie
 
 abbrev Inv-loop : tie.InvT-loop
-Inv-loop kinds masks tops kept₀ n i₀ kept i = (kept ≡ flags (length kept₀) masks tops i) × (i ≤ n)
+Inv-loop masks tops kept₀ n i₀ kept i = (kept ≡ flags n masks tops i) × (i ≤ n)
 
 abbrev μ-loop : tie.MeasureT-loop
-μ-loop kinds masks tops kept₀ n i₀ kept i = n - i
+μ-loop masks tops kept₀ n i₀ kept i = n - i
+
+-- From the read of a flag back to the turn of the loop, and from there to the start.
+abbrev turn : tie.After-slice-known3 Inv-loop μ-loop → tie.At-loop Inv-loop μ-loop
+turn c = c .before .before .before
+
+abbrev start : tie.At-loop Inv-loop μ-loop → tie.Start Inv-loop μ-loop
+start c = c .before .before .before .before .before .before .before .before
+
+larges-requires : tie.Need-larges-requires Inv-loop μ-loop
+larges-requires c κs = search needs
 
 loop-holds : tie.Need-loop-holds Inv-loop μ-loop
-loop-holds c = (flags-none _ _ _ _ refl (c .before .before .before .pre .3), zero-le)
+loop-holds c =
+    let a = c .before .before .before .before .before .before .before in
+    let l = c .before .before .larges .ensures in
+    (l ∙ ap (λ n. table n (λ p. number (large (a .args .masks .now) p))) (sym (a .pre .1)) ∙ flags-none _ _ _, zero-le)
 
-mul-get : tie.Need-mul-get Inv-loop μ-loop
-mul-get c = search needs
+mul-top : tie.Need-mul-top Inv-loop μ-loop
+mul-top c = omega arith
 
-shared-slice-read-get : tie.Need-shared-slice-read-get Inv-loop μ-loop
-shared-slice-read-get c = omega arith
+shared-slice-read-top : tie.Need-shared-slice-read-top Inv-loop μ-loop
+shared-slice-read-top c = omega arith
 
-get-requires : tie.Need-get-requires Inv-loop μ-loop
-get-requires c κs = search needs
+cast-top : tie.Need-cast-top Inv-loop μ-loop
+cast-top c = let l = c .before .before in omega (arith, start l .pre .2 (l .loop .i))
 
-mul-put : tie.Need-mul-put Inv-loop μ-loop
-mul-put c =
-    omega (
-      arith,
-      c .before .before .before .before .before .before .before .before .before .before .good .1 .0 .1,
-      c .before .before .before .before .before .loop-test .taken,
-    )
+mul-flag : tie.Need-mul-flag Inv-loop μ-loop
+mul-flag c = omega arith
 
-shared-slice-read-put : tie.Need-shared-slice-read-put Inv-loop μ-loop
-shared-slice-read-put c =
-    omega (
-      arith,
-      c .before .before .before .before .before .before .before .before .before .before .before .pre .1,
-      c .before .before .before .before .before .before .before .before .before .before .before .pre .2,
-      c .before
-          .before .before .before .before .before .loop-test .taken,
-    )
+slice-read-flag : tie.Need-slice-read-flag Inv-loop μ-loop
+slice-read-flag c = omega (arith, ap length (turn c .loop .inv .0) ∙ flags-long _ _ _ _)
 
-put-requires : tie.Need-put-requires Inv-loop μ-loop
-put-requires c κs = search needs
+sub-kept : tie.Need-sub-kept Inv-loop μ-loop
+sub-kept c = start (turn c) .pre .2 (turn c .loop .i)
+
+cast-kept : tie.Need-cast-kept Inv-loop μ-loop
+cast-kept c =
+    let s = start (turn c) in
+    let l = turn c .loop in
+    let b = c .before .before .loop-test .taken in
+    let own = flag-own _ (s .args .masks .now) (s .args .tops .now) (s .pre .2) refl _ b _ (l .inv .0) in
+    omega (arith, own, number-le (large (s .args .masks .now) (l .i)))
+
+mul-kept : tie.Need-mul-kept Inv-loop μ-loop
+mul-kept c =
+    let s = start (turn c) in
+    let l = turn c .loop in
+    let b = c .before .before .loop-test .taken in
+    let own = flag-own _ (s .args .masks .now) (s .args .tops .now) (s .pre .2) refl _ b _ (l .inv .0) in
+    let le = back-le (l .i) (getD (s .args .tops .now) (l .i) 0) _ (large (s .args .masks .now) (l .i)) own in
+    omega (arith, le)
+
+sub-kept-2 : tie.Need-sub-kept-2 Inv-loop μ-loop
+sub-kept-2 c =
+    let s = start (turn c) in
+    let l = turn c .loop in
+    let b = c .before .before .loop-test .taken in
+    let own = flag-own _ (s .args .masks .now) (s .args .tops .now) (s .pre .2) refl _ b _ (l .inv .0) in
+    let le = back-le (l .i) (getD (s .args .tops .now) (l .i) 0) _ (large (s .args .masks .now) (l .i)) own in
+    le
+
+mul-kept-2 : tie.Need-mul-kept-2 Inv-loop μ-loop
+mul-kept-2 c = omega arith
+
+slice-write-kept : tie.Need-slice-write-kept Inv-loop μ-loop
+slice-write-kept c = omega (arith, ap length (turn c .loop .inv .0) ∙ flags-long _ _ _ _)
 
 add-i : tie.Need-add-i Inv-loop μ-loop
 add-i c = omega arith
@@ -57,37 +89,22 @@ loop-less c = omega arith
 
 loop-again : tie.Need-loop-again Inv-loop μ-loop
 loop-again c =
-    let s = c .before .before .before .before .before .before .before .before .before in
-    let a = s .args in
-    let b = c .before .before .before .before .loop-test .taken in
-    let m = sym (at-entry (a .masks .now) _ b) in
-    let f = c .before .before .before .before .before .loop .inv .0 in
-    ⊎-elim (λ w. (
-      flag-large _ _ _ _ _ _ _ _ _ f (s .pre .0) m (c .before .get .ensures) _ (w .0 .taken) (sym
-          (at-entry (a .tops .now) _ (omega (arith, s .pre .1, s .pre .2, b)))) (w .6 ∙ w .3 .ensures),
-      omega (arith, b),
-    ))
-    (λ w. (
-      flag-small _ _ _ _ _ _ _ _ _ f (s .pre .0) m (c .before .get .ensures) (w .0 .left) (w .1),
-      omega (
-        arith,
-        b,
-      ),
-    )) (c .if1 .came)
+    let s = start (turn c) in
+    let b = c .before .before .loop-test .taken in
+    let f = turn c .loop .inv .0 in
+    (flags-next _ (s .args .masks .now) (s .args .tops .now) (s .pre .2) refl _ b _ _ _ f refl refl, omega (arith, b))
 
 same-length : tie.Need-same-length Inv-loop μ-loop
-same-length c = ap length (c .before .loop .inv .0) ∙ length-table _ _
+same-length c = ap length (c .before .loop .inv .0) ∙ flags-long _ _ _ _ ∙ start (c .before) .pre .1
 
 returns : tie.Need-returns Inv-loop μ-loop
 returns c =
-    let a = c .before .before .before .before .before .args in
-    let e : c .before .loop .i ≡ length (a .kept .now) = omega (
-      arith,
-      c .loop-test .left,
-      c .before .loop .inv .1,
-      c .before .before .before .before .before .pre .1,
-    ) in
-    c .before .loop .inv .0 ∙ ap (flags (length (a .kept .now)) (a .masks .now) (a .tops .now)) e
+    let s = start (c .before) in
+    let a = s .args in
+    let e : c .before .loop .i ≡ length (a .kept .now) = omega (arith, c .loop-test .left, c .before .loop .inv .1, s .pre .1) in
+    c .before .loop .inv .0
+    ∙ ap (λ n. flags n (a .masks .now) (a .tops .now) (c .before .loop .i)) (s .pre .1)
+    ∙ ap (flags (length (a .kept .now)) (a .masks .now) (a .tops .now)) e
 
 pub flag-spec : {M : Type 1} → statement M
 flag-spec =
@@ -95,13 +112,19 @@ flag-spec =
     (tie.spec
     Inv-loop
     μ-loop
+    larges-requires
     loop-holds
-    mul-get
-    shared-slice-read-get
-    get-requires
-    mul-put
-    shared-slice-read-put
-    put-requires
+    mul-top
+    shared-slice-read-top
+    cast-top
+    mul-flag
+    slice-read-flag
+    sub-kept
+    cast-kept
+    mul-kept
+    sub-kept-2
+    mul-kept-2
+    slice-write-kept
     add-i
     loop-less
     loop-again

@@ -1,5 +1,5 @@
 use native.Mathlib.Nat.{le-refl}
-use Rattle.table_entries.proofs.Entries.{at-entry}
+use Rattle.table_entries.proofs.Entries.{at-in}
 use Rattle.level_curves.proofs.Flags.{settle-entry}
 use mathlib.Core.Path.{sym, _∙_}
 use Prim.Native.Nat.{_-_}
@@ -11,13 +11,13 @@ use Rattle.level_curves.proofs.keep.settle.Statement.{statement}
 use Rattle.level_curves.proofs.keep.settle.Tie as tie
 
 abbrev Inv-loop : tie.InvT-loop
-Inv-loop kinds masks tops kept₀ n p₀ kept p = Filled n (settles masks tops kept₀) p kept₀ kept
+Inv-loop masks tops kept₀ n p₀ kept p = Filled n (settles masks tops kept₀) p kept₀ kept
 
 abbrev μ-loop : tie.MeasureT-loop
-μ-loop kinds masks tops kept₀ n p₀ kept p = n - p
+μ-loop masks tops kept₀ n p₀ kept p = n - p
 
 loop-holds : tie.Need-loop-holds Inv-loop μ-loop
-loop-holds c = filled-none _ _ _ (c .before .before .before .pre .3)
+loop-holds c = filled-none _ _ _ (c .before .before .before .pre .2)
 
 cast-i : tie.Need-cast-i Inv-loop μ-loop
 cast-i c = search needs
@@ -27,7 +27,7 @@ mul-settled c = omega arith
 
 shared-slice-read-settled : tie.Need-shared-slice-read-settled Inv-loop μ-loop
 shared-slice-read-settled c =
-    omega (arith, c .before .before .before .before .before .before .pre .1, c .before .loop-test .taken)
+    omega (arith, c .before .before .before .before .before .before .pre .0, c .before .loop-test .taken)
 
 mul-settled-2 : tie.Need-mul-settled-2 Inv-loop μ-loop
 mul-settled-2 c = omega arith
@@ -36,7 +36,7 @@ shared-slice-read-settled-2 : tie.Need-shared-slice-read-settled-2 Inv-loop μ-l
 shared-slice-read-settled-2 c =
     omega (
       arith,
-      c .before .before .before .before .before .before .before .pre .2,
+      c .before .before .before .before .before .before .before .pre .1,
       c .before .before .loop-test
           .taken,
     )
@@ -81,16 +81,15 @@ loop-again c =
     let a = s .args in
     let f = c .before .before .before .before .before .loop .inv in
     let b = c .before .before .before .before .loop-test .taken in
-    filled-more _ _ _ _ _ f _ b (settle-entry _ (a .masks .now) (a .tops .now) (a .kept .now) _ _ _ _ _ (s .pre .0)
-    (sym (at-entry (a .masks .now) _ (omega (arith, s .pre .1, b)))) (sym (at-entry (a .tops .now) _ (omega (
-      arith,
-      s .pre .2,
-      b,
-    )))) (f .rest _ (le-refl _) ∙ sym (at-entry (a .kept .now) _ (omega (arith, s .pre .3, b)))) (c
-    .settled .ensures))
+    filled-more _ _ _ _ _ f _ b
+    (settle-entry (a .masks .now) (a .tops .now) (a .kept .now) _ _ _ _ _
+    (at-in (a .masks .now) _ (omega (arith, s .pre .0, b)))
+    (at-in (a .tops .now) _ (omega (arith, s .pre .1, b)))
+    (f .rest _ (le-refl _) ∙ at-in (a .kept .now) _ (omega (arith, s .pre .2, b)))
+    (c .settled .ensures))
 
 same-length : tie.Need-same-length Inv-loop μ-loop
-same-length c = c .before .loop .inv .long ∙ sym (c .before .before .before .before .before .pre .3)
+same-length c = c .before .loop .inv .long ∙ sym (c .before .before .before .before .before .pre .2)
 
 returns : tie.Need-returns Inv-loop μ-loop
 returns c = filled-all _ _ _ _ _ (c .before .loop .inv) (c .loop-test .left)

@@ -1,5 +1,3 @@
-use mathlib.Core.Path.{_∙_}
-use Prim.Native.Nat.{_-_}
 use native.Mathlib.Omega.{arith}
 use borrow.Author.Needs.{needs}
 use Rattle.sheet_size.specs.Size.{widest}
@@ -33,7 +31,7 @@ plant-requires : tie.Need-plant-requires
 plant-requires c κs =
     let q = c .before .before .before .before .before .before .before .pre in
     let w = toward-back _ _ _ _ _ (c .before .before .before .toward .ensures) in
-    (q .4, q .3, w, toward-back _ _ _ _ _ (c .before .toward2 .ensures))
+    (q .5, q .4, w, toward-back _ _ _ _ _ (c .before .toward2 .ensures))
 
 same-length : tie.Need-same-length
 same-length c = search needs

@@ -1,24 +1,35 @@
+use mathlib.Core.Path.{_≡_, _∙_}
+use Prim.Native.Nat.{_+_, _*_, _-_, _≤_, _<_}
+use native.Mathlib.Omega.{arith}
 use lib.ListN.{length, length-set}
-use Rattle.region_parents.proofs.Corner.{Parented, parented-none, parented-on, parented-down, parented-all, corner-in, column-in}
+use Rattle.point_darts.specs.Dart.{mark, points, slots, dart}
 use Rattle.point_darts.proofs.Fit.{cells-fit, points-fit}
 use Rattle.paper.specs.Joining.{at, on}
 use Rattle.paper.specs.Enclosure.{parent}
-use Rattle.sheet_size.proofs.Limit.{within-limits}
-use Rattle.point_darts.specs.Dart.{mark, dart}
-use native.Mathlib.Omega.{arith}
-use Prim.Native.Nat.{_-_, _<_}
+use Rattle.region_parents.proofs.Corner.{Parented, parented-none, corners-in, names-in, parented-row, parented-all}
 use Rattle.region_parents.proofs.parent.find_parents.Statement.{statement}
 use Rattle.region_parents.proofs.parent.find_parents.Tie as tie
 
 abbrev Inv-loop : tie.InvT-loop
-Inv-loop width height side tops parents₀ n i₀ column₀ corner₀ parents i column corner =
-    Parented width (parent width (on side) (at side) tops) parents₀ parents i column corner
+Inv-loop width height side tops parents₀ y₀ corner₀ name₀ parents y corner name =
+    Parented width height (parent width (on side) (at side) tops) parents₀ parents y corner name
 
 abbrev μ-loop : tie.MeasureT-loop
-μ-loop width height side tops parents₀ n i₀ column₀ corner₀ parents i column corner = n - i
+μ-loop width height side tops parents₀ y₀ corner₀ name₀ parents y corner name = height - y
 
-mul-n : tie.Need-mul-n Inv-loop μ-loop
-mul-n c = omega (arith, cells-fit _ _ (c .before .before .before .pre .0))
+-- The row at hand: its corners are points, its names in the table.
+module _ (l : tie.In-loop Inv-loop μ-loop) where
+  abbrev start : tie.Start Inv-loop μ-loop
+  start = l .before .before .before .before .before
+
+  corners : l .before .loop .corner + start .args .width < points (start .args .width) (start .args .height)
+  corners = corners-in _ _ _ _ _ _ _ _ _ (l .before .loop .inv) (l .loop-test .taken)
+
+  names : l .before .loop .name + start .args .width ≤ start .args .width * start .args .height + 1
+  names = names-in _ _ _ _ _ _ _ _ _ (l .before .loop .inv) (l .loop-test .taken)
+
+  long : length (l .before .loop .parents) ≡ start .args .width * start .args .height + 1
+  long = l .before .loop .inv .half .long ∙ rw length-set (start .pre .3)
 
 slice-write-parents : tie.Need-slice-write-parents Inv-loop μ-loop
 slice-write-parents c = omega (arith, c .before .before .before .pre .3)
@@ -26,77 +37,55 @@ slice-write-parents c = omega (arith, c .before .before .before .pre .3)
 loop-holds : tie.Need-loop-holds Inv-loop μ-loop
 unfolding mark
 loop-holds c =
-    let q = c .before .before .before .pre in
-    let b : 0 < length (c .before .before .before .args .parents .now) = omega (arith, q .3) in
-    parented-none _ _ _ _ (c .before .before .before .args .parents .now) (within-limits _ _ (q .0) .wide) b
+    let s = c .before .before .before in
+    parented-none _ _ _ _ (s .args .parents .now) (omega (arith, s .pre .3))
 
-add-parent-at : tie.Need-add-parent-at Inv-loop μ-loop
-add-parent-at c = omega (arith, cells-fit _ _ (c .before .before .before .before .before .pre .0))
-
-parent-at-requires : tie.Need-parent-at-requires Inv-loop μ-loop
-unfolding mark dart
-parent-at-requires c κs =
-    let q = c .before .before .before .before .before .pre in
-    let k = corner-in _ _ _ _ _ _ _ _ (c .before .loop .inv) (c .loop-test .taken) in
-    let m = points-fit _ _ (q .0) in
-    let b = within-limits _ _ (q .0) .widest in
-    (omega arith, omega (arith, q .1), q .2, omega (arith, cells-fit _ _ (q .0)))
-
-add-i : tie.Need-add-i Inv-loop μ-loop
-add-i c = omega (arith, cells-fit _ _ (c .before .before .before .before .before .before .pre .0))
-
-cast-parents : tie.Need-cast-parents Inv-loop μ-loop
-cast-parents c = omega (arith, cells-fit _ _ (c .before .before .before .before .before .before .pre .0))
-
-mul-parents : tie.Need-mul-parents Inv-loop μ-loop
-mul-parents c = omega (arith, cells-fit _ _ (c .before .before .before .before .before .before .pre .0))
-
-slice-write-parents-2 : tie.Need-slice-write-parents-2 Inv-loop μ-loop
-slice-write-parents-2 c =
-    let l = c .before .before in
-    rw (l .loop .inv .half .long, length-set) (omega (arith, l .before .before .before .before .pre .3))
+parents-row-requires : tie.Need-parents-row-requires Inv-loop μ-loop
+unfolding mark dart slots
+parents-row-requires c κs =
+    let l = c .before in
+    let q = start l .pre in (
+      omega (arith, corners l, q .4),
+      omega (arith, points-fit _ _ (q .0), q .4),
+      omega (arith, corners l, q .1),
+      q .2,
+      omega (arith, names l, long l),
+      omega (arith, cells-fit _ _ (q .0), long l),
+    )
 
 add-corner : tie.Need-add-corner Inv-loop μ-loop
 add-corner c =
-    let l = c .before in
-    let m = points-fit _ _ (l .before .before .before .before .before .pre .0) in
-    omega (arith, corner-in _ _ _ _ _ _ _ _ (l .before .loop .inv) (l .loop-test .taken))
-
-add-column : tie.Need-add-column Inv-loop μ-loop
-add-column c =
-    let l = within-limits _ _ (c .before .before .before .before .before .before .pre .0) in
-    omega (arith, l .widest, column-in _ 0 _ _ _ _ _ _ (c .before .before .loop .inv) (l .wide))
+    let l = c .before .before .before .before in
+    omega (arith, corners l, points-fit _ _ (start l .pre .0))
 
 add-corner-2 : tie.Need-add-corner-2 Inv-loop μ-loop
 add-corner-2 c =
-    let l = c .before .before in
-    let m = points-fit _ _ (l .before .before .before .before .before .pre .0) in
-    omega (arith, corner-in _ _ _ _ _ _ _ _ (l .before .loop .inv) (l .loop-test .taken))
+    let l = c .before .before .before .before in
+    omega (arith, corners l, points-fit _ _ (start l .pre .0))
+
+add-name : tie.Need-add-name Inv-loop μ-loop
+add-name c =
+    let l = c .before .before .before .before in
+    omega (arith, names l, cells-fit _ _ (start l .pre .0))
+
+add-y : tie.Need-add-y Inv-loop μ-loop
+add-y c = omega arith
 
 loop-less : tie.Need-loop-less Inv-loop μ-loop
 loop-less c = omega arith
 
 loop-again : tie.Need-loop-again Inv-loop μ-loop
 loop-again c =
-    let q = c .before .before .before .before .before .before .before .pre in
-    parented-down _ _ _ _ _ _ _ _ _ (within-limits _ _ (q .0) .wide) (c .before .before .before .loop .inv)
-    (rw length-set (omega (arith, q .3))) _ (c .before .parent-at .ensures) (c .if1 .taken)
-
-loop-less-2 : tie.Need-loop-less-2 Inv-loop μ-loop
-loop-less-2 c = omega arith
-
-loop-again-2 : tie.Need-loop-again-2 Inv-loop μ-loop
-loop-again-2 c =
-    let q = c .before .before .before .before .before .before .before .pre in
-    parented-on _ _ _ _ _ _ _ _ _ (within-limits _ _ (q .0) .wide) (c .before .before .before .loop .inv)
-    (rw length-set (omega (arith, q .3))) _ (c .before .parent-at .ensures) (c .if1 .left)
+    let l = c .before .before .before .before in
+    parented-row _ _ _ _ _ _ _ _ _ (l .before .loop .inv) (l .loop-test .taken) (rw length-set (start l .pre .3)) _
+    (c .before .before .parents-row .ensures)
 
 same-length : tie.Need-same-length Inv-loop μ-loop
 same-length c = rw length-set at (c .before .loop .inv .half .long)
 
 returns : tie.Need-returns Inv-loop μ-loop
 returns c =
-    parented-all _ _ _ _ _ _ _ _ _ _ (c .before .loop .inv) (rw length-set (c .before .before .before .before .before .pre .3))
+    parented-all _ _ _ _ _ _ _ _ _ (c .before .loop .inv) (rw length-set (c .before .before .before .before .before .pre .3))
     (c .loop-test .left)
 
 pub find-parents-spec : {M : Type 1} → statement M
@@ -105,21 +94,14 @@ find-parents-spec =
     (tie.spec
     Inv-loop
     μ-loop
-    mul-n
     slice-write-parents
     loop-holds
-    add-parent-at
-    parent-at-requires
-    add-i
-    cast-parents
-    mul-parents
-    slice-write-parents-2
+    parents-row-requires
     add-corner
-    add-column
     add-corner-2
+    add-name
+    add-y
     loop-less
     loop-again
-    loop-less-2
-    loop-again-2
     same-length
     returns)

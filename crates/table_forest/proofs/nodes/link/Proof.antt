@@ -20,13 +20,19 @@ same-length : tie.Need-same-length
 same-length c = search needs
 
 returns : tie.Need-returns
-returns c m l f p q u v = linked l _ _ _ _ (omega arith) (omega arith) m _ f q v u
+returns c = (
+  omega arith,
+  λ m l f p q u v. linked l _ _ _ _ (omega arith) (omega arith) m _ f q _ (omega arith) v u,
+)
 
 same-length-2 : tie.Need-same-length-2
 same-length-2 c = search needs
 
 returns-2 : tie.Need-returns-2
-returns-2 c m l f p q u v = linked l _ _ _ _ (omega arith) (omega arith) m _ f p u v
+returns-2 c = (
+  omega arith,
+  λ m l f p q u v. linked l _ _ _ _ (omega arith) (omega arith) m _ f p _ (omega arith) u v,
+)
 
 pub link-spec : {M : Type 1} → statement M
 link-spec =

@@ -4,14 +4,14 @@ use lib.ListN.{length}
 use Rattle.table_entries.proofs.Half.{Half, half-none, half-more, half-same}
 use native.Mathlib.Omega.{arith}
 use borrow.Author.Needs.{needs}
-use Rattle.table_entries.proofs.entry.clear.Statement.{statement}
-use Rattle.table_entries.proofs.entry.clear.Tie as tie
+use Rattle.table_entries.proofs.entry.fill.Statement.{statement}
+use Rattle.table_entries.proofs.entry.fill.Tie as tie
 
 abbrev Inv-loop : tie.InvT-loop
-Inv-loop table₀ i₀ table i = Half (λ _. 0) i table₀ table
+Inv-loop table₀ each i₀ table i = Half (λ _. each) i table₀ table
 
 abbrev μ-loop : tie.MeasureT-loop
-μ-loop table₀ i₀ table i = length table₀ - i
+μ-loop table₀ each i₀ table i = length table₀ - i
 
 loop-holds : tie.Need-loop-holds Inv-loop μ-loop
 loop-holds c = half-none _ _
@@ -37,8 +37,8 @@ same-length c = c .before .loop .inv .long
 returns : tie.Need-returns Inv-loop μ-loop
 returns c = half-same _ _ _ _ (c .before .loop .inv) (omega arith)
 
-pub clear-spec : {M : Type 1} → statement M
-clear-spec =
+pub fill-spec : {M : Type 1} → statement M
+fill-spec =
     tie.close
     (tie.spec
     Inv-loop
