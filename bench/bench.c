@@ -1,10 +1,12 @@
-/* The library's speed as ratios to plain C (plain.c), both x86-64 and measured in one run.
+/* The library's speed as ratios to plain C (plain.c), both compiled for this machine and measured in one run.
  *
- * A job's time is the least of many repetitions, the jobs and the two sides in turn, on buffers that are warm. The
- * answers of both sides are compared. Prints tables in Markdown. */
+ * A batch of sheets is drawn, then checked, then joined, each by one side and then by the other, on buffers that are warm,
+ * in several rounds. Of each sheet, place and job the least of the rounds counts, and the times of all sheets are added.
+ * Random sheets are so many that the machine cannot learn which way the branches go, neither from one round to the next
+ * nor from a sheet's drawing to its check. The answers of both sides are compared. Prints tables in Markdown. */
 
 #include "../include/raimenolta.h"
-#include "plain.h"
+#include <plain.h>
 
 typedef uint16_t u16;
 
@@ -12,27 +14,42 @@ struct instant {
     long seconds, nanoseconds;
 };
 int clock_gettime(int clock, struct instant *now);
-int printf(const char *format, ...);
+int printf(const char *format, ...) __attribute__((format(printf, 1, 2)));
+int dprintf(int file, const char *format, ...) __attribute__((format(printf, 2, 3)));
 int memcmp(const void *a, const void *b, unsigned long count);
+int strcmp(const char *a, const char *b);
+void *memcpy(void *to, const void *from, unsigned long count);
 _Noreturn void exit(int status);
 
-enum { LIMIT = 72, CELLS = LIMIT * LIMIT, SLOTS = 4 * (LIMIT + 1) * (LIMIT + 1), MARK = 65535 };
-enum { REPETITIONS = 150, PLACES = 4, ROUNDS = 3, MONOTONIC = 1 };
+enum { MARK = 65535, MONOTONIC = 1, ERRORS = 2 };
 
-/* Room for five tables, the tables of one side. */
+/* The sizes that are measured, and the kinds of sheets. */
+enum { SIZES = 5, LEAST = 4, LIMIT = 72, KINDS = 5 };
+enum { AT_18 = 2, AT_72 = 4, FOUR_LABELS = 1 };
+static const int sizes[SIZES] = {LEAST, 9, 18, 36, LIMIT};
+static const char *const names[KINDS] = {"2 random labels", "4 random labels", "16 random labels", "all different",
+                                         "nested squares"};
+
+/* A batch is as many sheets of one size as have the cells of so many sheets of 72 by 72. So many batches are gone through in
+ * so many rounds; regions are joined in so many places of a sheet. */
+enum { LARGEST = 4, CELLS = LARGEST * LIMIT * LIMIT, BATCHES = 10, ROUNDS = 8, PLACES = 4 };
+
+/* The most sheets of a batch, and its most slots and names: those of the smallest sheets. */
+enum { MOST = CELLS / (LEAST * LEAST), SLOTS = 4 * (LEAST + 1) * (LEAST + 1) * MOST, NAMES = (LEAST * LEAST + 1) * MOST };
+
+/* Room for the five tables of each sheet of a batch, the tables of one side. */
 struct room {
-    u16 next1[SLOTS], side1[SLOTS], next3[SLOTS], other3[SLOTS], parent[CELLS + 1];
+    u16 next1[SLOTS], side1[SLOTS], next3[SLOTS], other3[SLOTS], parent[NAMES];
 };
 
-static struct room ours, plains;
-static u16 work[4][SLOTS];
+static struct room our_room, plain_room;
+static u16 work[4][4 * (LIMIT + 1) * (LIMIT + 1)];
 
-/* As many sheets of one size as make 72 by 72 cells together, so that every size is given as much that is new. */
-static u16 sheets[CELLS];
+/* The sheets of one kind and size, and the batch at hand. */
+static u16 sheets[BATCHES * CELLS], batch[CELLS];
 
-/* The size of the sheets, their number, and the one at hand. */
+/* The size of the sheets, and how many a batch has. */
 static int side, cells, slots, count;
-static const u16 *sheet;
 
 static double now(void) {
     struct instant t;
@@ -42,114 +59,119 @@ static double now(void) {
 
 static void need(int holds, const char *what) {
     if (holds) return;
-    printf("bench: %s\n", what);
+    dprintf(ERRORS, "bench: %s\n", what);
     exit(1);
 }
 
-static struct five tables(struct room *room) {
-    return (struct five){room->next1, room->side1, room->next3, room->other3, room->parent};
+/* The sheet at hand, its tables of both sides, and two regions of it. */
+struct hand {
+    const u16 *sheet;
+    struct five our, plain;
+    int a, b;
+};
+
+static struct five tables(struct room *room, int n) {
+    int at = n * slots;
+    return (struct five){room->next1 + at, room->side1 + at, room->next3 + at, room->other3 + at,
+                         room->parent + n * (cells + 1)};
 }
 
-static int same(const struct room *a, const struct room *b) {
+static struct hand take(int n) {
+    return (struct hand){batch + n * cells, tables(&our_room, n), tables(&plain_room, n), 0, 0};
+}
+
+static int same(struct five a, struct five b) {
     unsigned long links = sizeof(u16) * (unsigned long)slots;
-    return !memcmp(a->next1, b->next1, links) && !memcmp(a->side1, b->side1, links) &&
-           !memcmp(a->next3, b->next3, links) && !memcmp(a->other3, b->other3, links) &&
-           !memcmp(a->parent, b->parent, sizeof(u16) * (unsigned long)(cells + 1));
+    return !memcmp(a.next1, b.next1, links) && !memcmp(a.side1, b.side1, links) && !memcmp(a.next3, b.next3, links) &&
+           !memcmp(a.other3, b.other3, links) && !memcmp(a.parent, b.parent, sizeof(u16) * (unsigned long)(cells + 1));
 }
 
 #define LINKS(t) t, (size_t)slots
-#define FIVE(r) LINKS(r.next1), LINKS(r.side1), LINKS(r.next3), LINKS(r.other3), r.parent, (size_t)cells + 1
+#define FIVE(f) LINKS(f.next1), LINKS(f.side1), LINKS(f.next3), LINKS(f.other3), f.parent, (size_t)cells + 1
 #define WORKS LINKS(work[0]), LINKS(work[1]), LINKS(work[2]), LINKS(work[3])
 
-static int our_draw(void) {
-    return raimenolta_draw((u16)side, (u16)side, sheet, (size_t)cells, FIVE(ours), WORKS);
+static void our_draw(struct hand h) {
+    need(!raimenolta_draw((u16)side, (u16)side, h.sheet, (size_t)cells, FIVE(h.our), WORKS), "the library refuses a sheet");
 }
 
-static int our_check(void) {
-    return raimenolta_check((u16)side, (u16)side, FIVE(ours), WORKS);
+static void our_check(struct hand h) {
+    need(!raimenolta_check((u16)side, (u16)side, FIVE(h.our), WORKS), "the library refuses a drawing");
 }
 
-static int our_join(int a, int b) {
-    return raimenolta_join((u16)side, (u16)side, FIVE(ours), (u16)a, (u16)b, WORKS);
+static void our_join(struct hand h) {
+    need(!raimenolta_join((u16)side, (u16)side, FIVE(h.our), (u16)h.a, (u16)h.b, WORKS), "the library refuses a join");
 }
 
-/* The times of one side, in microseconds. */
+static void its_draw(struct hand h) { plain_draw(side, side, h.sheet, h.plain); }
+
+static void its_check(struct hand h) { need(plain_check(side, side, h.plain), "plain C refuses a drawing"); }
+
+static void its_join(struct hand h) { need(!plain_join(side, side, h.plain, h.a, h.b), "plain C refuses a join"); }
+
+/* The times of one side for the cells of 72 by 72, in microseconds. */
 struct times {
     double draw, check, join;
 };
 
-static void keep(double *least, double took) {
+/* The least that each job took, in microseconds, of each kind, size, place and sheet, and of both sides. */
+struct least {
+    float draw, check, join;
+};
+static struct least our_least[KINDS][SIZES][PLACES][BATCHES][MOST], plain_least[KINDS][SIZES][PLACES][BATCHES][MOST];
+
+/* What it takes to read the clock. */
+static double clock_takes;
+
+static void find_clock(void) {
+    clock_takes = 1e9;
+    for (int k = 0; k < 10000; k++) {
+        double began = now(), took = now() - began;
+        if (took < clock_takes) clock_takes = took;
+    }
+}
+
+static void keep(float *least, double began) {
+    float took = (float)(now() - began - clock_takes);
+    if (took < 0) took = 0;
     if (*least == 0 || took < *least) *least = took;
 }
 
-static void keep_all(struct times *least, struct times took) {
-    keep(&least->draw, took.draw);
-    keep(&least->check, took.check);
-    keep(&least->join, took.join);
-}
-
-static void add_share(struct times *sum, struct times one, int parts) {
-    sum->draw += one.draw / parts;
-    sum->check += one.check / parts;
-    sum->join += one.join / parts;
-}
-
-/* The two regions beside the first line between regions from a slot on, in our drawing. */
-static void pair_from(int slot, int *a, int *b) {
+/* The two regions beside the first line between regions from a slot on. */
+static void find_pair(struct hand *h, int slot) {
     int far[4] = {1, side + 1, -1, -side - 1};
+    const u16 *side1 = h->our.side1;
     for (int k = 0; k < slots; k++) {
-        int dart = (slot + k) % slots;
-        if (ours.side1[dart] == MARK) continue;
-        *a = ours.side1[dart];
-        *b = ours.side1[4 * (dart / 4 + far[dart % 4]) + (dart % 4 ^ 2)];
-        if (*a != 0 && *b != 0) return;
+        int dart = slot + k < slots ? slot + k : slot + k - slots;
+        if (side1[dart] == MARK) continue;
+        h->a = side1[dart];
+        h->b = side1[4 * (dart / 4 + far[dart % 4]) + (dart % 4 ^ 2)];
+        if (h->a != 0 && h->b != 0) return;
     }
     need(0, "no two regions share a line");
 }
 
-/* Each job once on the sheet at hand, the two sides in turn; two regions are joined, from a slot on. */
-static void run(struct times *our, struct times *plain, int slot) {
-    int a, b;
+static void timed(void (*job)(struct hand), struct hand h, float *least) {
     double began = now();
-    need(our_draw() == 0, "the library refuses a sheet");
-    our->draw += now() - began;
-    began = now();
-    plain_draw(side, side, sheet, tables(&plains));
-    plain->draw += now() - began;
-    need(same(&ours, &plains), "the two drawings differ");
-    pair_from(slot, &a, &b);
-    began = now();
-    need(our_check() == 0, "the library refuses a drawing");
-    our->check += now() - began;
-    began = now();
-    need(plain_check(side, side, tables(&plains)), "plain C refuses a drawing");
-    plain->check += now() - began;
-    began = now();
-    need(our_join(a, b) == 0, "the library refuses a join");
-    our->join += now() - began;
-    began = now();
-    need(plain_join(side, side, tables(&plains), a, b) == 0, "plain C refuses a join");
-    plain->join += now() - began;
-    need(same(&ours, &plains), "the two joins differ");
+    job(h);
+    keep(least, began);
 }
 
-/* The times of all sheets together: the mean, over a few places to join, of the least of the repetitions. */
-static void measure(struct times *our, struct times *plain) {
-    *our = *plain = (struct times){0, 0, 0};
-    for (int p = 1; p <= PLACES; p++) {
-        struct times our_least = {0, 0, 0}, plain_least = {0, 0, 0};
-        for (int k = 0; k < REPETITIONS; k++) {
-            struct times our_once = {0, 0, 0}, plain_once = {0, 0, 0};
-            for (int n = 0; n < count; n++) {
-                sheet = sheets + n * cells;
-                run(&our_once, &plain_once, p * slots / (PLACES + 1));
-            }
-            keep_all(&our_least, our_once);
-            keep_all(&plain_least, plain_once);
-        }
-        add_share(our, our_least, PLACES);
-        add_share(plain, plain_least, PLACES);
+/* The batch at hand: its sheets are drawn, then checked, then in each two regions joined, at a place; each job by one side
+ * and then by the other. */
+static void run(struct least *our, struct least *plain, int place) {
+    static struct hand h[MOST];
+    for (int n = 0; n < count; n++) h[n] = take(n);
+    for (int n = 0; n < count; n++) timed(our_draw, h[n], &our[n].draw);
+    for (int n = 0; n < count; n++) timed(its_draw, h[n], &plain[n].draw);
+    for (int n = 0; n < count; n++) {
+        need(same(h[n].our, h[n].plain), "the two drawings differ");
+        find_pair(&h[n], (place + 1) * slots / (PLACES + 1));
     }
+    for (int n = 0; n < count; n++) timed(our_check, h[n], &our[n].check);
+    for (int n = 0; n < count; n++) timed(its_check, h[n], &plain[n].check);
+    for (int n = 0; n < count; n++) timed(our_join, h[n], &our[n].join);
+    for (int n = 0; n < count; n++) timed(its_join, h[n], &plain[n].join);
+    for (int n = 0; n < count; n++) need(same(h[n].our, h[n].plain), "the two joins differ");
 }
 
 static uint32_t seed;
@@ -160,105 +182,200 @@ static int random_below(int bound) {
     return (int)((seed >> 16) * (uint32_t)bound >> 16);
 }
 
-static void set_size(int n) {
-    side = n;
-    cells = n * n;
-    slots = 4 * (n + 1) * (n + 1);
+/* A sheet of random labels, of two regions at least. */
+static void random_sheet(u16 *to, int labels) {
+    int alike = 1;
+    for (int c = 0; c < cells; c++) {
+        to[c] = (u16)random_below(labels);
+        alike &= to[c] == to[0];
+    }
+    if (alike) to[0] ^= 1;
+}
+
+static void different_sheet(u16 *to) {
+    for (int c = 0; c < cells; c++) to[c] = (u16)c;
+}
+
+static void nested_sheet(u16 *to) {
+    for (int c = 0; c < cells; c++) {
+        int x = c % side, y = c / side;
+        int across = x < side - 1 - x ? x : side - 1 - x, down = y < side - 1 - y ? y : side - 1 - y;
+        to[c] = (u16)(across < down ? across : down);
+    }
+}
+
+/* The sheets of a kind and a size. Those of a kind that is not random are all alike. */
+static void make_sheets(int kind, int size) {
+    static const int labels[3] = {2, 4, 16};
+    side = sizes[size];
+    cells = side * side;
+    slots = 4 * (side + 1) * (side + 1);
     count = CELLS / cells;
     seed = 1;
-}
-
-static void random_sheets(int n, int labels) {
-    set_size(n);
-    for (int c = 0; c < CELLS; c++) sheets[c] = (u16)random_below(labels);
-}
-
-static void different_sheets(int n) {
-    set_size(n);
-    for (int c = 0; c < CELLS; c++) sheets[c] = (u16)(c % cells);
-}
-
-static void nested_sheets(int n) {
-    set_size(n);
-    for (int c = 0; c < CELLS; c++) {
-        int x = c % cells % n, y = c % cells / n;
-        int across = x < n - 1 - x ? x : n - 1 - x, down = y < n - 1 - y ? y : n - 1 - y;
-        sheets[c] = (u16)(across < down ? across : down);
+    for (int n = 0; n < BATCHES * count; n++) {
+        u16 *to = sheets + n * cells;
+        if (kind < 3)
+            random_sheet(to, labels[kind]);
+        else if (kind == 3)
+            different_sheet(to);
+        else
+            nested_sheet(to);
     }
 }
 
-/* The kinds of sheets that are measured. */
-enum { KINDS = 5 };
-static const char *const names[KINDS] = {"2 random labels", "4 random labels", "16 random labels", "all different",
-                                         "nested squares"};
+static void lay(int n) { memcpy(batch, sheets + n * CELLS, sizeof(batch)); }
 
-static void make_sheets(int kind, int n) {
-    static const int labels[3] = {2, 4, 16};
-    if (kind < 3)
-        random_sheets(n, labels[kind]);
-    else if (kind == 3)
-        different_sheets(n);
-    else
-        nested_sheets(n);
-}
-
-static double most_draw, most_join, most_core;
-
-/* The join's times, in drawings: with its check and without. */
-static void count_join(struct times our) {
-    if (our.join / our.draw > most_join) most_join = our.join / our.draw;
-    if ((our.join - our.check) / our.draw > most_core) most_core = (our.join - our.check) / our.draw;
-}
-
-static void row(int kind) {
-    struct times our, plain;
-    make_sheets(kind, LIMIT);
-    measure(&our, &plain);
-    double draw = our.draw / plain.draw;
-    printf("| %s | %.2f | %.2f | %.2f | %.2f | %.2f | %.2f |\n", names[kind], draw, our.check / plain.check,
-           our.join / plain.join, our.check / our.draw, our.join / our.draw, (our.join - our.check) / our.draw);
-    if (draw > most_draw) most_draw = draw;
-    count_join(our);
-}
-
-static void small_row(int kind) {
-    static const int sizes[4] = {4, 9, 18, 36};
-    printf("| %s |", names[kind]);
-    for (int k = 0; k < 4; k++) {
-        struct times our, plain;
-        make_sheets(kind, sizes[k]);
-        measure(&our, &plain);
-        printf(" %.2f, %.2f |", our.join / our.draw, (our.join - our.check) / our.draw);
-        count_join(our);
-    }
-    printf("\n");
-}
-
-static void growth(void) {
-    struct times our[4] = {{0, 0, 0}};
-    int sizes[4] = {9, 18, 36, 72};
-    for (int round = 0; round < ROUNDS; round++)
-        for (int k = 0; k < 4; k++) {
-            struct times once, plain;
-            random_sheets(sizes[k], 4);
-            measure(&once, &plain);
-            add_share(&our[k], once, ROUNDS);
+/* All sheets of a kind and a size, at each place: a sheet comes again after all the others. */
+static void go_round(int kind, int size) {
+    make_sheets(kind, size);
+    for (int place = 0; place < PLACES; place++)
+        for (int n = 0; n < BATCHES; n++) {
+            lay(n);
+            run(our_least[kind][size][place][n], plain_least[kind][size][place][n], place);
         }
-    for (int k = 0; k < 4; k++)
-        printf("| %d by %d | %.2f | %.2f | %.2f |\n", sizes[k], sizes[k], our[k].draw / our[3].draw,
-               our[k].check / our[3].check, our[k].join / our[3].join);
 }
 
-int main(void) {
-    printf("| sheet, 72 by 72 | drawing / plain | check / plain | join / plain | check / drawing | join / drawing "
-           "| join without its check / drawing |\n|---|---|---|---|---|---|---|\n");
-    for (int kind = 0; kind < KINDS; kind++) row(kind);
+/* The mean times. */
+static struct times mean(struct least least[PLACES][BATCHES][MOST], int size) {
+    struct times sum = {0, 0, 0};
+    int number = CELLS / (sizes[size] * sizes[size]);
+    for (int k = 0; k < PLACES * BATCHES; k++)
+        for (int n = 0; n < number; n++) {
+            struct least one = least[k / BATCHES][k % BATCHES][n];
+            sum.draw += (double)one.draw / (PLACES * BATCHES * LARGEST);
+            sum.check += (double)one.check / (PLACES * BATCHES * LARGEST);
+            sum.join += (double)one.join / (PLACES * BATCHES * LARGEST);
+        }
+    return sum;
+}
+
+static struct times our[KINDS][SIZES], plain[KINDS][SIZES];
+
+static void measure(void) {
+    find_clock();
+    for (int round = 0; round < ROUNDS; round++) {
+        dprintf(ERRORS, "bench: round %d of %d\n", round + 1, ROUNDS);
+        for (int size = 0; size < SIZES; size++)
+            for (int kind = 0; kind < KINDS; kind++) go_round(kind, size);
+    }
+    for (int size = 0; size < SIZES; size++)
+        for (int kind = 0; kind < KINDS; kind++) {
+            our[kind][size] = mean(our_least[kind][size], size);
+            plain[kind][size] = mean(plain_least[kind][size], size);
+        }
+}
+
+static double larger(double a, double b) { return a > b ? a : b; }
+
+/* The greatest ratios, for the targets. */
+static double most_draw, most_check, most_join, most_core;
+
+static void against_plain(int kind, int size) {
+    struct times o = our[kind][size], p = plain[kind][size];
+    printf(" %.2f | %.2f | %.2f |", o.draw / p.draw, o.check / p.check, o.join / p.join);
+    most_draw = larger(most_draw, o.draw / p.draw);
+    most_check = larger(most_check, o.check / p.check);
+}
+
+static void plain_table(void) {
+    printf("| sheet | 72 by 72: drawing / plain | check / plain | join / plain | 18 by 18: drawing / plain | check / plain "
+           "| join / plain |\n|---|---|---|---|---|---|---|\n");
+    for (int kind = 0; kind < KINDS; kind++) {
+        printf("| %s |", names[kind]);
+        against_plain(kind, AT_72);
+        against_plain(kind, AT_18);
+        printf("\n");
+    }
+}
+
+/* A join in drawings, with its check and without. */
+static void in_drawings(int kind, int size, const char *between) {
+    struct times o = our[kind][size];
+    double whole = o.join / o.draw, core = (o.join - o.check) / o.draw;
+    printf(" %.2f%s %.2f |", whole, between, core);
+    most_join = larger(most_join, whole);
+    most_core = larger(most_core, core);
+}
+
+static void drawings_table(void) {
+    printf("\n| sheet, 72 by 72 | check / drawing | join / drawing | join without its check / drawing |\n"
+           "|---|---|---|---|\n");
+    for (int kind = 0; kind < KINDS; kind++) {
+        printf("| %s | %.2f |", names[kind], our[kind][AT_72].check / our[kind][AT_72].draw);
+        in_drawings(kind, AT_72, " |");
+        printf("\n");
+    }
+}
+
+static void small_table(void) {
     printf("\n| sheet; join with its check, and without, in drawings | 4 by 4 | 9 by 9 | 18 by 18 | 36 by 36 |\n"
            "|---|---|---|---|---|\n");
-    for (int kind = 0; kind < KINDS; kind++) small_row(kind);
-    printf("\nA drawing takes at most %.2f times plain C (target 1.3); a join, its check included, at most %.2f drawings "
-           "(target 3), without its check %.2f (target 1).\n\n", most_draw, most_join, most_core);
-    printf("| 4 random labels | drawing, cost of a cell against 72 by 72 | check | join |\n|---|---|---|---|\n");
-    growth();
+    for (int kind = 0; kind < KINDS; kind++) {
+        printf("| %s |", names[kind]);
+        for (int size = 0; size < AT_72; size++) in_drawings(kind, size, ",");
+        printf("\n");
+    }
+}
+
+static void targets(void) {
+    printf("\nA drawing takes at most %.2f times plain C (target 1.0), a check at most %.2f (target 1.1), at 72 by 72 and 18 by "
+           "18; a join, its check included, at most %.2f drawings (target 3), without its check %.2f (target 1).\n",
+           most_draw, most_check, most_join, most_core);
+}
+
+static void growth_table(void) {
+    struct times most = our[FOUR_LABELS][AT_72];
+    printf("\n| 4 random labels | drawing, cost of a cell against 72 by 72 | check | join |\n|---|---|---|---|\n");
+    for (int size = 1; size <= AT_72; size++) {
+        struct times o = our[FOUR_LABELS][size];
+        printf("| %d by %d | %.2f | %.2f | %.2f |\n", sizes[size], sizes[size], o.draw / most.draw, o.check / most.check,
+               o.join / most.join);
+    }
+}
+
+static void times_table(void) {
+    printf("\n| sheet, 72 by 72; microseconds, of this machine only | drawing | check | join |\n|---|---|---|---|\n");
+    for (int kind = 0; kind < KINDS; kind++) {
+        struct times o = our[kind][AT_72];
+        printf("| %s | %.1f | %.1f | %.1f |\n", names[kind], o.draw, o.check, o.join);
+    }
+}
+
+/* A job of one side once, on the first sheet of a kind, 72 by 72: what bench/run counts the instructions of. */
+static void once(int kind, const char *job) {
+    make_sheets(kind, AT_72);
+    lay(0);
+    struct hand h = take(0);
+    if (!strcmp(job, "plain_draw")) {
+        its_draw(h);
+        return;
+    }
+    our_draw(h);
+    plain_room = our_room;
+    find_pair(&h, slots / 2);
+    if (!strcmp(job, "raimenolta_check")) our_check(h);
+    if (!strcmp(job, "plain_check")) its_check(h);
+    if (!strcmp(job, "raimenolta_join")) our_join(h);
+    if (!strcmp(job, "plain_join")) its_join(h);
+}
+
+/* With no word prints the tables; with the word kinds the names of the kinds; with the number of a kind and a job does that
+ * job once. */
+int main(int words, char **word) {
+    if (words == 2 && !strcmp(word[1], "kinds")) {
+        for (int kind = 0; kind < KINDS; kind++) printf("%s\n", names[kind]);
+        return 0;
+    }
+    if (words == 3) {
+        once(word[1][0] - '0', word[2]);
+        return 0;
+    }
+    measure();
+    plain_table();
+    drawings_table();
+    small_table();
+    targets();
+    growth_table();
+    times_table();
     return 0;
 }

@@ -1,168 +1,206 @@
-/* Drawing, checking and joining in plain C, written for speed and without proof.
+/* Drawing, checking and joining in plain C, written for speed and without proof, by the ideas of the proved code.
  *
- * Union-find over the cells gives the names, union-find over the points the pieces, one pass each fills the tables, and
- * each curve of level 3 is walked once for its two ends. The check reads the names off the sides, draws and compares.
- * A join checks, gives both regions one name and draws. Sizes and lengths are the caller's business. */
+ * Union-find over the cells gives the names, union-find over the points the pieces; of two neighbours one that is absent
+ * is stood in for by the other, and roots are searched only where the two entries differ. Lines, sides and next are loops
+ * over all points that the compiler turns into vector code. A dart of level 3 whose far point is kept is linked at once; a
+ * longer run is walked once for its two ends. The check reads the names off the sides, draws and compares. A join checks,
+ * gives both regions one name and draws. Sizes and lengths are the caller's business. */
 
 #include "plain.h"
 
-typedef uint8_t u8;
 typedef uint16_t u16;
 
 void *memset(void *to, int byte, unsigned long count);
 int memcmp(const void *a, const void *b, unsigned long count);
 
-enum { LIMIT = 72, CELLS = LIMIT * LIMIT, POINTS = (LIMIT + 1) * (LIMIT + 1), SLOTS = 4 * POINTS, MARK = 65535 };
+enum { LIMIT = 72, ROW = LIMIT + 1, CELLS = LIMIT * LIMIT, POINTS = ROW * ROW, SLOTS = 4 * POINTS, RIM = 2 * ROW + 1 };
 enum { EAST, SOUTH, WEST, NORTH };
+enum { MARK = 65535 };
 
-/* The first present of right turn, straight on, left turn and back, at 4 * present + heading. */
-static u8 turn[64];
+/* All ones where a test is passed: the mark. */
+static u16 ones(int test) { return (u16)-test; }
 
-static void fill_turn(void) {
-    for (int present = 1; present < 16; present++)
-        for (int heading = 0; heading < 4; heading++) {
-            int order[4] = {heading + 1, heading, heading + 3, heading + 2};
-            for (int k = 3; k >= 0; k--)
-                if (present >> (order[k] & 3) & 1) turn[4 * present + heading] = order[k] & 3;
-        }
-}
-
-static int least(u16 *up, int k) {
-    while (up[k] != k) {
-        up[k] = up[up[k]];
-        k = up[k];
-    }
+/* The root of a node. Each node on the way is led past the next. */
+static u16 root_of(u16 *up, u16 k) {
+    while (up[k] != k) k = up[k] = up[up[k]];
     return k;
 }
 
-/* Joins two sets; the least member stays the root. */
-static void unite(u16 *up, int a, int b) {
-    a = least(up, a);
-    b = least(up, b);
-    if (a < b) up[b] = (u16)a;
-    else up[a] = (u16)b;
+/* A node more, in one tree with the node before it, with the one above it, with both or with none; the entries of these
+ * two are given, and all ones for the one that is not of its tree. The least node of a tree is its root. Returns the entry
+ * of the new node. Only whether the two entries differ is a branch, so the test is one number. */
+static inline u16 plant(u16 *up, u16 node, u16 no_before, u16 before, u16 no_above, u16 above) {
+    u16 stead = above ^ (no_above & (above ^ node)), a = no_before ? stead : before;
+    if ((a ^ above) & ~no_above) {
+        a = root_of(up, a);
+        above = root_of(up, above);
+        u16 smaller = a < above ? a : above;
+        up[a] = up[above] = smaller;
+        a = smaller;
+    }
+    up[node] = a;
+    return a;
 }
 
-/* Names with a rim of zeros for the outside: cell (x, y) is at (y + 1) * stride + x + 1. */
-static u16 names[(LIMIT + 2) * (LIMIT + 2)];
+/* Names with the outside, 0, round them: the cell north-west of point p is at p, the others round it are at p + 1,
+ * p + row and p + row + 1, where a row has width + 1 points. */
+static u16 names[POINTS + ROW + 1];
 
-static void name_cells(int width, int height, const u16 *sheet) {
-    static u16 up[CELLS];
-    int stride = width + 2;
-    for (int y = 0, c = 0; y < height; y++)
-        for (int x = 0; x < width; x++, c++) {
-            int left = x > 0 && sheet[c - 1] == sheet[c];
-            int above = y > 0 && sheet[c - width] == sheet[c];
-            up[c] = left ? up[c - 1] : above ? up[c - width] : (u16)c;
-            if (left && above && up[c - 1] != up[c - width]) unite(up, c - 1, c - width);
-        }
-    memset(names, 0, sizeof(u16) * (unsigned long)(stride * (height + 2)));
+static void name_cells(int width, int height, const u16 *restrict sheet) {
+    static u16 up_and_rim[LIMIT + CELLS], not_left[CELLS], not_above[CELLS];
+    u16 *up = up_and_rim + LIMIT;
+    int row = width + 1, cells = width * height;
+    for (int c = 1; c < cells; c++) not_left[c] = ones(sheet[c - 1] != sheet[c]);
+    for (int c = 0; c < cells; c += width) not_left[c] = MARK;
+    memset(not_above, 255, sizeof(u16) * (unsigned long)width);
+    for (int c = width; c < cells; c++) not_above[c] = ones(sheet[c - width] != sheet[c]);
+    u16 before = 0;
+    for (int c = 0; c < cells; c++) before = plant(up, (u16)c, not_left[c], before, not_above[c], up[c - width]);
+    memset(names, 0, sizeof(u16) * (unsigned long)(row * (height + 2) + 1));
     for (int y = 0, c = 0; y < height; y++)
         for (int x = 0; x < width; x++, c++) {
             up[c] = up[up[c]];
-            names[(y + 1) * stride + x + 1] = up[c] + 1;
+            names[(y + 1) * row + x + 1] = up[c] + 1;
         }
 }
 
-/* The lines at each point, as a mask, with room for a row before the first and after the last; and the least point of
- * its piece. */
-static u8 present_and_rim[POINTS + 2 * (LIMIT + 1)];
-static u8 *const present = present_and_rim + LIMIT + 1;
-static u16 piece[POINTS];
+/* The lines that are not there: all ones where point p has no line east, or none south, else 0. Its line west is the
+ * line east of point p - 1, its line north the line south of point p - row. No line leads out of the sheet. More of the rim
+ * is read below, but whatever comes of it, the mark is laid over. */
+static u16 east_and_rim[RIM + POINTS + RIM], south_and_rim[RIM + POINTS + RIM];
+static u16 *const no_east = east_and_rim + RIM, *const no_south = south_and_rim + RIM;
 
-static void level_1(int width, int height, struct five five) {
-    int row = width + 1, stride = width + 2, points = row * (height + 1);
-    for (int y = 0, p = 0; y <= height; y++)
-        for (int x = 0; x <= width; x++, p++) {
-            const u16 *at = names + y * stride + x;
-            u16 nw = at[0], ne = at[1], sw = at[stride], se = at[stride + 1];
-            int east = ne != se, south = sw != se, west = nw != sw, north = nw != ne;
-            present[p] = (u8)(east | south << 1 | west << 2 | north << 3);
-            u16 *side = five.side1 + 4 * p;
-            side[EAST] = east ? se : MARK;
-            side[SOUTH] = south ? sw : MARK;
-            side[WEST] = west ? nw : MARK;
-            side[NORTH] = north ? ne : MARK;
-            piece[p] = west ? piece[p - 1] : north ? piece[p - row] : (u16)p;
-            if (west && north && piece[p - 1] != piece[p - row]) unite(piece, p - 1, p - row);
-        }
-    int step[4] = {1, row, -1, -row};
+static void find_lines(int row, int points) {
+    no_east[-1] = MARK;
+    memset(no_south - row, 255, sizeof(u16) * (unsigned long)row);
+    for (int p = 0; p < points; p++) no_east[p] = ones(names[p + 1] == names[p + row + 1]);
+    for (int p = 0; p < points; p++) no_south[p] = ones(names[p + row] == names[p + row + 1]);
+}
+
+/* North is written first: in the other order the compiler takes one point at a time, not eight. */
+static void sides(int row, int points, u16 *restrict side) {
     for (int p = 0; p < points; p++) {
-        u16 *next = five.next1 + 4 * p;
-        for (int d = 0; d < 4; d++) {
-            int far = p + step[d];
-            u16 dart = (u16)(4 * far + turn[4 * present[far] + d]);
-            next[d] = present[p] >> d & 1 ? dart : MARK;
-        }
-        piece[p] = piece[piece[p]];
+        side[4 * p + NORTH] = names[p + 1] | no_south[p - row];
+        side[4 * p + WEST] = names[p] | no_east[p - 1];
+        side[4 * p + SOUTH] = names[p + row] | no_south[p];
+        side[4 * p + EAST] = names[p + row + 1] | no_east[p];
     }
 }
 
-static void level_3(int width, int height, struct five five) {
-    static u8 kept[POINTS];
-    static u8 junction_in[POINTS];
-    static const u8 many[16] = {[7] = 1, [11] = 1, [13] = 1, [14] = 1, [15] = 1};
-    int row = width + 1, points = row * (height + 1);
-    int step[4] = {1, row, -1, -row};
-    memset(junction_in, 0, (unsigned long)points);
+/* The first that is there of right turn, straight on, left turn and back, by arithmetic; the line back is there. */
+static inline u16 turn(u16 heading, u16 no_right, u16 no_straight, u16 no_left) {
+    u16 right = (heading + 1) & 3, left = (heading + 3) & 3, back = heading ^ 2;
+    u16 past_straight = left ^ (no_left & (left ^ back));
+    u16 past_right = heading ^ (no_straight & (heading ^ past_straight));
+    return right ^ (no_right & (right ^ past_right));
+}
+
+static void nexts(int row, int points, u16 *restrict next) {
     for (int p = 0; p < points; p++) {
-        kept[p] = many[present[p]];
-        if (kept[p]) junction_in[piece[p]] = 1;
+        int e = p + 1, s = p + row, w = p - 1, n = p - row;
+        next[4 * p + EAST] = (u16)(4 * e + turn(EAST, no_south[e], no_east[e], no_south[e - row])) | no_east[p];
+        next[4 * p + SOUTH] = (u16)(4 * s + turn(SOUTH, no_east[s - 1], no_south[s], no_east[s])) | no_south[p];
+        next[4 * p + WEST] = (u16)(4 * w + turn(WEST, no_south[w - row], no_east[w - 1], no_south[w])) | no_east[w];
+        next[4 * p + NORTH] = (u16)(4 * n + turn(NORTH, no_east[n], no_south[n - row], no_east[n - 1])) | no_south[n];
     }
+}
+
+/* The least point of the piece of each point. */
+static u16 piece_and_rim[ROW + POINTS];
+static u16 *const piece = piece_and_rim + ROW;
+
+static void find_pieces(int row, int points) {
+    u16 before = 0;
     for (int p = 0; p < points; p++)
-        if (piece[p] == p && present[p] && !junction_in[p]) kept[p] = 1;
-    memset(five.next3, 255, sizeof(u16) * 4 * (unsigned long)points);
-    memset(five.other3, 255, sizeof(u16) * 4 * (unsigned long)points);
+        before = plant(piece, (u16)p, no_east[p - 1], before, no_south[p - row], piece[p - row]);
+    for (int p = 0; p < points; p++) piece[p] = piece[piece[p]];
+}
+
+/* 1 for each point that level 3 keeps, else 0; and 1 at the place that the mark would lead to. */
+static u16 kept[MARK / 4 + 1];
+
+static void keep(int row, int points) {
+    static u16 large[POINTS], bare[POINTS], met[POINTS];
+    for (int p = 0; p < points; p++) {
+        u16 lines = (u16)(4 + no_east[p] + no_south[p] + no_east[p - 1] + no_south[p - row]);
+        large[p] = lines > 2;
+        bare[p] = lines == 0;
+    }
+    /* Whether a piece has a point of three or four lines, at its least point. No point's least is after the point, so
+     * a point at hand has met none yet, and where it is not large its own 0 is written: nothing branches. */
+    for (int p = 0; p < points; p++) met[p - (p - piece[p]) * large[p]] = large[p];
+    for (int p = 0; p < points; p++) kept[p] = large[p] | ((piece[p] == p) & !bare[p] & !met[p]);
+    kept[MARK / 4] = 1;
+}
+
+static void links(int row, int points, const u16 *restrict next1, u16 *restrict next3, u16 *restrict other3) {
+    int step[4] = {1, row, -1, -row};
+    memset(next3, 255, sizeof(u16) * 4 * (unsigned long)points);
+    memset(other3, 255, sizeof(u16) * 4 * (unsigned long)points);
     for (int p = 0; p < points; p++) {
         if (!kept[p]) continue;
         for (int d = 0; d < 4; d++) {
             int dart = 4 * p + d;
-            if (!(present[p] >> d & 1) || five.other3[dart] != MARK) continue;
-            int last = dart, far = p + step[d];
-            while (!kept[far]) {
-                last = five.next1[last];
-                far += step[last & 3];
+            u16 after = next1[dart], last = (u16)dart;
+            /* A dart that is not there is linked to the mark. */
+            if (kept[after / 4]) {
+                next3[dart] = after;
+                other3[dart] = (u16)((after & ~3) | (d ^ 2)) | ones(after == MARK);
+                continue;
             }
-            int other = 4 * far + ((last & 3) ^ 2);
-            five.other3[dart] = (u16)other;
-            five.next3[dart] = five.next1[last];
-            five.other3[other] = (u16)dart;
-            five.next3[other] = five.next1[4 * (p + step[d]) + (d ^ 2)];
+            if (other3[dart] != MARK) continue;
+            do {
+                last = after;
+                after = next1[after];
+            } while (!kept[after / 4]);
+            int end = (after & ~3) | ((last & 3) ^ 2);
+            next3[dart] = after;
+            other3[dart] = (u16)end;
+            next3[end] = next1[4 * (p + step[d]) + (d ^ 2)];
+            other3[end] = (u16)dart;
         }
     }
 }
 
-static void parents(int width, int height, struct five five) {
-    int row = width + 1, stride = width + 2;
-    five.parent[0] = MARK;
-    for (int y = 0, c = 0; y < height; y++)
-        for (int x = 0; x < width; x++, c++) {
-            if (names[(y + 1) * stride + x + 1] != c + 1) {
-                five.parent[c + 1] = MARK;
-                continue;
-            }
-            int top = piece[y * row + x];
-            five.parent[c + 1] = names[top / row * stride + top % row + 1];
+static void parents(int width, int height, u16 *restrict parent) {
+    int row = width + 1;
+    parent[0] = MARK;
+    for (int y = 0, name = 1; y < height; y++)
+        for (int x = 0; x < width; x++, name++) {
+            int corner = y * row + x;
+            parent[name] = names[piece[corner] + 1] | ones(names[corner + row + 1] != name);
         }
 }
 
+/* Draws from the names. */
+static void draw_named(int width, int height, struct five five) {
+    int row = width + 1, points = row * (height + 1);
+    find_lines(row, points);
+    sides(row, points, five.side1);
+    nexts(row, points, five.next1);
+    find_pieces(row, points);
+    keep(row, points);
+    links(row, points, five.next1, five.next3, five.other3);
+    parents(width, height, five.parent);
+}
+
 void plain_draw(int width, int height, const u16 *sheet, struct five five) {
-    if (!turn[4]) fill_turn();
     name_cells(width, height, sheet);
-    level_1(width, height, five);
-    level_3(width, height, five);
-    parents(width, height, five);
+    draw_named(width, height, five);
 }
 
 /* The names of the cells, read off the sides of the lines to their left. */
 static u16 read_names[CELLS];
 
 static void names_of(int width, int height, const u16 *side1) {
-    for (int y = 0, c = 0; y < height; y++)
+    for (int y = 0, c = 0; y < height; y++) {
+        u16 name = MARK;
         for (int x = 0; x < width; x++, c++) {
             u16 side = side1[4 * ((y + 1) * (width + 1) + x) + NORTH];
-            read_names[c] = side != MARK || x == 0 ? side : read_names[c - 1];
+            name = side != MARK ? side : name;
+            read_names[c] = name;
         }
+    }
 }
 
 int plain_check(int width, int height, struct five five) {
@@ -195,9 +233,10 @@ int plain_join(int width, int height, struct five five, int a, int b) {
     int cells = width * height;
     if (a > cells || b > cells || five.parent[a] == MARK || five.parent[b] == MARK) return 8;
     if (!beside(width, height, a, b)) return 9;
-    int smaller = a < b ? a : b, larger = a + b - smaller;
-    for (int c = 0; c < cells; c++)
-        if (read_names[c] == larger) read_names[c] = (u16)smaller;
-    plain_draw(width, height, read_names, five);
+    /* The check has left the names of all cells; the larger of the two gives way. */
+    int smaller = a < b ? a : b, larger = a + b - smaller, count = (width + 1) * (height + 2) + 1;
+    for (int k = 0; k < count; k++)
+        if (names[k] == larger) names[k] = (u16)smaller;
+    draw_named(width, height, five);
     return 0;
 }
