@@ -14,7 +14,6 @@ use Rattle.paper.specs.Drawing.{Tables, drawn, drawing}
 use Rattle.paper.specs.Joining.{at, on}
 use Rattle.paper_laws.proofs.Sheet.{border-lines, border-below}
 use Rattle.paper_laws.proofs.Marks.{within-fits, on-marked, names-side-small}
-use Rattle.paper_laws.proofs.Piece.{tops-le}
 use Rattle.paper_laws.proofs.Along.{kept3-kept, Kept as Kept′}
 use Rattle.paper_laws.proofs.Joined.{parents-drawn}
 use Rattle.region_names.specs.Frame.{framed}
@@ -26,6 +25,7 @@ use Rattle.level_curves.specs.Keep.{keeps}
 use Rattle.level_curves.specs.Link.{keptAt, alongNext, alongOther, TwoWay}
 use Rattle.level_curves.proofs.Paper.{keeps-paper, alongNext-paper, alongOther-paper, two-way}
 use Rattle.region_parents.specs.Tops.{Rising}
+use Rattle.region_parents.proofs.Rise.{tops-rising as rising}
 use Rattle.table_lengths.specs.Given.{tables}
 use Rattle.drawing.specs.Parts.{Lined, Kept, Curved}
 use Rattle.region_names.specs.Frame.{surround}
@@ -126,4 +126,4 @@ module _ (w h : ℕ) (l : List ℕ) (e : within w h ≡ true) (r m x s t k : Lis
 
 -- no point's top is after the point
 pub tops-rising : (w h : ℕ) (s m t k : List ℕ) → Kept w h s m t k → Rising (take (points w h) t)
-tops-rising w h s m t k g = record { up = λ p. rw (g .tops) (tops-le w h (on s) p) }
+tops-rising w h s m t k g = rising w h (on s) (take (points w h) t) (g .tops)

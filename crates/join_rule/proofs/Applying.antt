@@ -12,18 +12,13 @@ use Rattle.paper.specs.Level.{tops, marked}
 use Rattle.paper.specs.Enclosure.{parent, parents}
 use Rattle.paper.specs.Joining.{Links, at, on, shared, removed, rest1, rest3, smoothed, closes, closed, joined}
 use Rattle.paper.specs.Refusal.{cleared}
-use Rattle.paper_laws.proofs.Piece.{tops-le}
 use Rattle.table_lengths.specs.Given.{tables}
-use Rattle.region_parents.specs.Tops.{Rising}
 use Rattle.join_darts.specs.Links.{links}
 use Rattle.join_rule.specs.Apply.{pair}
 use Rattle.join_rule.proofs.Fewer.{removed-fewer, on-lowered}
 
 -- Steps 3 and 4.
 module _ (w h : ℕ) (o : ℕ → Bool) (t : List ℕ) (e : t ≡ tops w h o) where
-  pub tops-rising : Rising t
-  tops-rising = rw e (record { up = tops-le w h o })
-
   pub settle-links : (l k j : Links) → k ≡ smoothed w h l → j ≡ closes o t (points w h) 0 k
       → j ≡ closed w h o (smoothed w h l)
   unfolding closed

@@ -188,7 +188,8 @@ module _ {b c : ℕ → ℕ} {n : ℕ} {f g : ℕ → ℕ} (p : Roots b c n f) (
       let k : g i ≤ i = q .low i h in
       roots-least p (q .joined i h) (omega arith)
 
-pub roots-unique : {b c : ℕ → ℕ} {n : ℕ} {f g : ℕ → ℕ} → Roots b c n f → Roots b c n g → (i : ℕ) → i < n → f i ≡ g i
+pub roots-unique : {b c : ℕ → ℕ} {n : ℕ} {f g : ℕ → ℕ} → Roots b c n f → Roots b c n g
+    → (i : ℕ) → i < n → f i ≡ g i
 roots-unique p q i h = omega (arith, roots-le p q i h, roots-le q p i h)
 
 record Rooted (b c : ℕ → ℕ) (n : ℕ) (t : List ℕ) : Type 0 where

@@ -23,9 +23,10 @@ use Rattle.level_curves.specs.Keep.{bends, keeps}
 use Rattle.level_curves.specs.Link.{keptAt, TwoWay}
 use Rattle.level_lines.proofs.Paper.{drafted, nexts-paper, others-paper, masked-paper, sides-paper}
 use Rattle.level_curves.proofs.Paper.{bends-paper, keeps-paper, alongNext-paper, alongOther-paper, trimmed-paper, two-way}
-use Rattle.level_call.specs.Tables.{plainTables, alongTables, keptPoints, tablesOf, Framed}
+use Rattle.level_call.specs.Tables.{plainTables, alongTables, keptPoints, tablesOf, Surrounded}
 
-three : {a b c x y z : List ℕ} → a ≡ x → b ≡ y → c ≡ z → _≡_ {A = List (List ℕ)} (a ∷ b ∷ c ∷ []) (x ∷ y ∷ z ∷ [])
+three : {a b c x y z : List ℕ} → a ≡ x → b ≡ y → c ≡ z
+    → _≡_ {A = List (List ℕ)} (a ∷ b ∷ c ∷ []) (x ∷ y ∷ z ∷ [])
 three p q r = λ i. p i ∷ q i ∷ r i ∷ []
 
 abbrev threeOf : ℕ → ℕ → List ℕ → Level → List (List ℕ)
@@ -82,8 +83,8 @@ module _ (w h : ℕ) (n : List ℕ) (room : slots w h ≤ mark) where
         rw (q, d, nexts-paper w h (border w h n) (border-lines w h n))
         (two-way w h n room k (kept-points l (eqb l 2) refl k (t ∙ rw (r, d))))
 
-pub runs-level : (w h l : ℕ) (f m x s k : List ℕ) → within w h ≡ true → Framed w h f → m ≡ masked w h f → x ≡ nexts w h m
-    → s ≡ sides w h f m → k ≡ keptPoints w h l m s → TwoWay w (slots w h) x k
+pub runs-level : (w h l : ℕ) (f m x s k : List ℕ) → within w h ≡ true → Surrounded w h f → m ≡ masked w h f
+    → x ≡ nexts w h m → s ≡ sides w h f m → k ≡ keptPoints w h l m s → TwoWay w (slots w h) x k
 runs-level w h l f m x s k e g p q r t =
     let room = within-fits w h e in
     runs-paper w h (names w h (g .sheet)) room (names-side-small w h (g .sheet) room) l m x s k

@@ -3,7 +3,7 @@
 --   alongTables ..  == next, other and side of the level with level 1 next x and sides s that keeps the points k
 --   keptPoints ..   == the points that level 2 keeps, else level 3, from the lines m of level 1 and their sides s
 --   tablesOf w h l f == next, other and side of level l, from the names f with the outside round them
---   Framed w h f    == f is the names of a sheet with the outside round them
+--   Surrounded w h f == f is the names of a sheet with the outside round them
 use mathlib.Core.Path.{_≡_}
 use mathlib.Core.Bool.{cond}
 use mathlib.Core.List.{List, [], _∷_}
@@ -42,6 +42,6 @@ tablesOf w h (suc (suc (suc l))) f =
     let s = sides w h f m in
     alongTables w h (nexts w h m) (keeps w h m (tops w h (on s))) s
 
-pub record Framed (w h : ℕ) (f : List ℕ) : Type 0 where
+pub record Surrounded (w h : ℕ) (f : List ℕ) : Type 0 where
   pub sheet : List ℕ
   pub names : f ≡ framed w h (names w h sheet)

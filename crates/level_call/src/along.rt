@@ -16,7 +16,7 @@ ghost use Rattle.point_darts.specs.Dart.{points, slots};
 ghost use Rattle.paper.specs.Level.{tops};
 ghost use Rattle.paper.specs.Joining.{on};
 ghost use Rattle.level_curves.specs.Keep.{keeps};
-ghost use Rattle.level_call.specs.Tables.{keptPoints, tablesOf, Framed};
+ghost use Rattle.level_call.specs.Tables.{keptPoints, tablesOf, Surrounded};
 
 // The points that level 3 keeps, from the lines of level 1 and their sides. The tops of the pieces are found in a table
 // of slot length, which is scratch.
@@ -84,7 +84,7 @@ pub fn along(
         (length (now framed) ≡ points width height + width + 2) × (length (now next1) ≡ slots width height) ×
         (length (now masks) ≡ points width height) × (length (now kept) ≡ points width height) ×
         (length (now next) ≡ slots width height) × (length (now other) ≡ slots width height) ×
-        (length (now side) ≡ slots width height) × Framed width height (now framed)
+        (length (now side) ≡ slots width height) × Surrounded width height (now framed)
         ⌝ }
     ensures { λ _. ⌜
         (now (next .exit) ∷ now (other .exit) ∷ now (side .exit) ∷ []) ≡

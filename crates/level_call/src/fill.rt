@@ -11,7 +11,7 @@ ghost use lib.ListN.{length};
 ghost use Rattle.sheet_size.specs.Size.{within};
 ghost use Rattle.point_darts.specs.Dart.{points, slots};
 ghost use Rattle.paper.specs.Refusal.{cleared, levelTables};
-ghost use Rattle.level_call.specs.Tables.{tablesOf, Framed};
+ghost use Rattle.level_call.specs.Tables.{tablesOf, Surrounded};
 
 // The level of a number up to 3.
 fn numbered(
@@ -31,7 +31,7 @@ fn numbered(
         (length (now next1) ≡ slots width height) × (length (now masks) ≡ points width height) ×
         (length (now kept) ≡ points width height) × (length (now next) ≡ slots width height) ×
         (length (now other) ≡ slots width height) × (length (now side) ≡ slots width height) ×
-        Framed width height (now framed)
+        Surrounded width height (now framed)
         ⌝ }
     ensures { λ _. ⌜
         (now (next .exit) ∷ now (other .exit) ∷ now (side .exit) ∷ []) ≡

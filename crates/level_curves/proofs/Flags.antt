@@ -1,7 +1,7 @@
 -- The points that are kept.
 --   kinding         == what the point table says of each mask where no line is taken
---   stands i m t p  == the table t names point p at a large point below i
---   Flagged n m t i k == k has a flag, 1, at the points below n that t names at large points below i, and 0 at the others
+--   stands i m t p  == the table t names point p at a large point berise .up i
+--   Flagged n m t i k == k has a flag, 1, at the points below n that t names at large points berise .up i, and 0 at the others
 use mathlib.Core.Path.{_≡_, refl, sym, ap, _∙_}
 use mathlib.Core.Bool.{Bool, true, false, not, _&&_, _||_, and-true, and-false}
 use mathlib.Core.List.{List}
@@ -20,9 +20,8 @@ use Rattle.point_darts.specs.Dart.{mark, points, turned}
 use Rattle.point_darts.specs.Point.{bits, half, has, degree, inline}
 use Rattle.point_rules.specs.Turn.{without, impossible, kind, becomes, becomesOf, kinding}
 use Rattle.point_rules.proofs.Turns.{each, each-at}
-use Rattle.paper.specs.Level.{tops}
 use Rattle.paper.specs.Joining.{at}
-use Rattle.paper_laws.proofs.Piece.{tops-le}
+use Rattle.region_parents.specs.Tops.{Rising}
 use Rattle.level_curves.specs.Keep.{kindAt, large, stands, anchored, settles, keeps}
 use Rattle.table_entries.proofs.Entries.{at-entry}
 
@@ -114,10 +113,6 @@ or-true : (a : Bool) → (a || true) ≡ true
 or-true true = refl
 or-true false = refl
 
-pub number-le : (a : Bool) → number a ≤ 1
-number-le true = omega arith
-number-le false = omega arith
-
 -- Flags. The way back from place i to t, where v is 1, and none where it is 0.
 pub back-le : (i t v : ℕ) (r : Bool) → v ≡ number r → (i - t) * v ≤ i
 back-le i t v true e = rw e (omega arith)
@@ -174,7 +169,7 @@ module _ (n : ℕ) (m t : List ℕ) where
       flag-at i p d f (ℕ-discrete p (at t i)) ∙ sym (flag-read (i + 1) p 0 d)))
 
   -- a point more, where no top is after its point
-  module _ (low : (q : ℕ) → getD t q 0 ≤ q) (long : length t ≡ n) (i : ℕ) (b : i < n) where
+  module _ (rise : Rising t) (long : length t ≡ n) (i : ℕ) (b : i < n) where
     -- no other point's flag stands at a place that comes later
     none-yet : stands i m t i ≡ false
     unfolding stands
@@ -182,7 +177,7 @@ module _ (n : ℕ) (m t : List ℕ) where
         none-some (λ q. eqb (at t q) i && large m q) i
         (λ q l.
         ap (λ e. e && large m q)
-        (ne-eqb (at t q) i (λ e. omega (arith, low q, at-entry t q (omega (arith, long))))))
+        (ne-eqb (at t q) i (λ e. omega (arith, rise .up q, at-entry t q (omega (arith, long))))))
 
     own-flag : getD (flags n m t i) i 0 ≡ number (large m i)
     own-flag = flag-read i i 0 b ∙ ap (λ s. number (large m i || s)) none-yet ∙ ap number (or-false (large m i))
@@ -208,7 +203,7 @@ module _ (n : ℕ) (m t : List ℕ) where
         go true r =
             let one : v ≡ 1 = p ∙ flag-own k f ∙ ap number r in
             let back : u ≡ i - (i - getD t i 0) * 1 = rw one at q in
-            let top : u ≡ at t i = omega (arith, back, low i, at-entry t i (omega (arith, long))) in
+            let top : u ≡ at t i = omega (arith, back, rise .up i, at-entry t i (omega (arith, long))) in
             rw (f, one) (flags-more i u top r)
         go false r =
             let none : v ≡ 0 = p ∙ flag-own k f ∙ ap number r in
@@ -240,7 +235,3 @@ module _ (w h : ℕ) (m t : List ℕ) where
       ∙ table-agree n (settles m t k) (λ p. number (large m p || anchored n m t p))
       (λ p b. rw (e, settled-at n p b) (ap number (apart (large m p) (not (eqb (at m p) 0)) (eqb (at t p) p) (stands n m t p))))
       ∙ rw q
-
--- no point's top is after the point
-pub tops-low : (w h : ℕ) (o : ℕ → Bool) (t : List ℕ) → t ≡ tops w h o → (p : ℕ) → getD t p 0 ≤ p
-tops-low w h o t e p = rw e (tops-le w h o p)

@@ -3,14 +3,14 @@ use point_rules::turn;
 use table_entries::entry;
 ghost use mathlib.Core.Path.{_≡_};
 ghost use mathlib.Core.Bool.{true, _||_, _&&_, not};
-ghost use Prim.Native.Nat.{ℕ, _≤_};
 ghost use lib.Dec.{eqb};
-ghost use lib.ListN.{length, getD};
+ghost use lib.ListN.{length};
 ghost use Rattle.laws.specs.Table.{table, number};
 ghost use Rattle.sheet_size.specs.Size.{within};
 ghost use Rattle.point_darts.specs.Dart.{points};
 ghost use Rattle.point_rules.specs.Turn.{becomesOf};
 ghost use Rattle.paper.specs.Joining.{at};
+ghost use Rattle.region_parents.specs.Tops.{Rising};
 ghost use Rattle.level_curves.specs.Keep.{large, stands, settles, bends, keeps};
 
 // 1 for a point with three or four lines, or with a corner; else 0.
@@ -74,8 +74,7 @@ fn larges(masks: &[u16], kept: &mut [u16])
 // or none: where it has none, its own 0 is written again, and nothing branches.
 fn flag(masks: &[u16], tops: &[u16], kept: &mut [u16])
     requires { ⌜
-        (length (now masks) ≡ length (now kept)) × (length (now tops) ≡ length (now kept)) ×
-        ((p : ℕ) → getD (now tops) p 0 ≤ p)
+        (length (now masks) ≡ length (now kept)) × (length (now tops) ≡ length (now kept)) × Rising (now tops)
         ⌝ }
     ensures { λ _. ⌜
         now (kept .exit) ≡
@@ -124,7 +123,7 @@ pub fn keeps(width: u16, height: u16, masks: &[u16], tops: &[u16], kept: &mut [u
     requires { ⌜
         (within width height ≡ true) × (length (now masks) ≡ points width height) ×
         (length (now tops) ≡ points width height) × (length (now kept) ≡ points width height) ×
-        ((p : ℕ) → getD (now tops) p 0 ≤ p)
+        Rising (now tops)
         ⌝ }
     ensures { λ _. ⌜ now (kept .exit) ≡ keeps width height (now (masks .entry)) (now (tops .entry)) ⌝ }
 {

@@ -1,1 +1,2 @@
 pub mod Corner
+pub mod Rise

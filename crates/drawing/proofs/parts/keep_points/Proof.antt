@@ -2,7 +2,7 @@ use mathlib.Core.Path.{sym, _∙_}
 use borrow.Author.Needs.{needs}
 use Rattle.table_entries.proofs.Front.{front-in, front-long, front-back, back-in, back-long}
 use Rattle.region_names.proofs.Room.{points-part}
-use Rattle.level_curves.proofs.Flags.{tops-low}
+use Rattle.region_parents.proofs.Rise.{tops-rising}
 use Rattle.drawing.proofs.Part.{kept-all}
 use Rattle.drawing.proofs.parts.keep_points.Statement.{statement}
 use Rattle.drawing.proofs.parts.keep_points.Tie as tie
@@ -92,7 +92,7 @@ keeps-requires c κs =
       front-long _ _ (s .args .lines .now) (s .pre .2) (points-part _ _ _ e) ∙ e,
       l ∙ e,
       front-long _ _ (s .args .kept .now) (s .pre .4) (points-part _ _ _ e) ∙ e,
-      tops-low _ _ _ _
+      tops-rising _ _ _ _
           (front-back _ _ (s .args .top .now) (s .pre .3) (points-part _ _ _ e) (t .top-points .last .1 .1 .1 .0)
           (t .top-points .kept .1 .1 .1 .0)
           ∙ t .top-points .ensures),

@@ -1,6 +1,6 @@
 use mathlib.Core.Path.{_∙_}
 use borrow.Author.Needs.{needs}
-use Rattle.join_rule.proofs.Applying.{tops-rising}
+use Rattle.region_parents.proofs.Rise.{tops-rising}
 use Rattle.join_rule.proofs.apply.settle.Statement.{statement}
 use Rattle.join_rule.proofs.apply.settle.Tie as tie
 

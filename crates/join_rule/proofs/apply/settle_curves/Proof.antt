@@ -1,6 +1,7 @@
 use mathlib.Core.Path.{_∙_}
 use borrow.Author.Needs.{needs}
-use Rattle.join_rule.proofs.Applying.{tops-rising, settle-links}
+use Rattle.region_parents.proofs.Rise.{tops-rising}
+use Rattle.join_rule.proofs.Applying.{settle-links}
 use Rattle.join_rule.proofs.apply.settle_curves.Statement.{statement}
 use Rattle.join_rule.proofs.apply.settle_curves.Tie as tie
 

@@ -4,7 +4,7 @@ use borrow.Author.Needs.{needs}
 use Rattle.table_entries.proofs.Front.{front-in, front-long, front-back, back-in, back-long}
 use Rattle.region_names.proofs.Room.{points-part}
 use Rattle.level_curves.specs.Keep.{keeps}
-use Rattle.level_curves.proofs.Flags.{tops-low}
+use Rattle.region_parents.proofs.Rise.{tops-rising}
 use Rattle.level_call.proofs.along.keep_anchors.Statement.{statement}
 use Rattle.level_call.proofs.along.keep_anchors.Tie as tie
 
@@ -72,7 +72,7 @@ keeps-requires c κs =
     let e = p .points .ensures in
     let l = back-long _ _ (a .scratch .now) (s .pre .3) (points-part _ _ _ e) (t .last .1 .1 .1 .0) (t .kept .1 .1 .1 .0) in
     let f = front-back _ _ (a .scratch .now) (s .pre .3) (points-part _ _ _ e) (t .last .1 .1 .1 .0) (t .kept .1 .1 .1 .0) in
-    (s .pre .0, s .pre .2, l ∙ e, s .pre .4, tops-low _ _ _ _ (f ∙ t .ensures))
+    (s .pre .0, s .pre .2, l ∙ e, s .pre .4, tops-rising _ _ _ _ (f ∙ t .ensures))
 
 same-length : tie.Need-same-length
 same-length c = search needs

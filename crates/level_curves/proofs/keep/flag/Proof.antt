@@ -4,8 +4,9 @@ use native.Mathlib.Omega.{arith}
 use lib.ListN.{length, getD}
 use borrow.Author.Needs.{needs}
 use Rattle.laws.specs.Table.{table, number}
+use Rattle.point_darts.proofs.Points.{number-below}
 use Rattle.level_curves.specs.Keep.{large}
-use Rattle.level_curves.proofs.Flags.{flags, flags-none, flags-long, back-le, number-le, flag-own, flags-next}
+use Rattle.level_curves.proofs.Flags.{flags, flags-none, flags-long, back-le, flag-own, flags-next}
 use Rattle.level_curves.proofs.keep.flag.Statement.{statement}
 use Rattle.level_curves.proofs.keep.flag.Tie as tie
 
@@ -38,7 +39,7 @@ shared-slice-read-top : tie.Need-shared-slice-read-top Inv-loop μ-loop
 shared-slice-read-top c = omega arith
 
 cast-top : tie.Need-cast-top Inv-loop μ-loop
-cast-top c = let l = c .before .before in omega (arith, start l .pre .2 (l .loop .i))
+cast-top c = let l = c .before .before in omega (arith, start l .pre .2 .up (l .loop .i))
 
 mul-flag : tie.Need-mul-flag Inv-loop μ-loop
 mul-flag c = omega arith
@@ -47,7 +48,7 @@ slice-read-flag : tie.Need-slice-read-flag Inv-loop μ-loop
 slice-read-flag c = omega (arith, ap length (turn c .loop .inv .0) ∙ flags-long _ _ _ _)
 
 sub-kept : tie.Need-sub-kept Inv-loop μ-loop
-sub-kept c = start (turn c) .pre .2 (turn c .loop .i)
+sub-kept c = start (turn c) .pre .2 .up (turn c .loop .i)
 
 cast-kept : tie.Need-cast-kept Inv-loop μ-loop
 cast-kept c =
@@ -55,7 +56,7 @@ cast-kept c =
     let l = turn c .loop in
     let b = c .before .before .loop-test .taken in
     let own = flag-own _ (s .args .masks .now) (s .args .tops .now) (s .pre .2) refl _ b _ (l .inv .0) in
-    omega (arith, own, number-le (large (s .args .masks .now) (l .i)))
+    omega (arith, own, number-below (large (s .args .masks .now) (l .i)))
 
 mul-kept : tie.Need-mul-kept Inv-loop μ-loop
 mul-kept c =

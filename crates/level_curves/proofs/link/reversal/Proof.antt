@@ -16,7 +16,8 @@ opposite-requires c κs = rw (c .direction .ensures) (direction-below _)
 
 leaving-requires : tie.Need-leaving-requires
 unfolding mark dart point
-leaving-requires c κs = omega (arith, c .before .before .point .ensures, c .opposite .ensures, turned-below (c .before .direction .result) 2)
+leaving-requires c κs =
+    omega (arith, c .before .before .point .ensures, c .opposite .ensures, turned-below (c .before .direction .result) 2)
 
 returns : tie.Need-returns
 returns c = rw (
