@@ -22,10 +22,10 @@ use Rattle.paper.specs.Drawing.{Tables, drawn, drawing, recovered, same, isDraw
 use Rattle.paper.specs.Joining.{at, on}
 use Rattle.paper_laws.proofs.Marks.{within-fits, cells-slots, names-side-small}
 use Rattle.region_names.specs.Frame.{framed}
-use Rattle.level_lines.specs.Mask.{masked}
+use Rattle.level_masks.specs.Mask.{masked}
 use Rattle.level_lines.specs.Line.{nexts}
 use Rattle.level_lines.specs.Side.{sides}
-use Rattle.level_curves.specs.Keep.{keeps}
+use Rattle.level_kept.specs.Keep.{keeps}
 use Rattle.level_curves.specs.Link.{TwoWay, alongNext, alongOther}
 use Rattle.table_lengths.specs.Given.{tables}
 use Rattle.drawing.specs.Parts.{Lined, Kept, Curved, roundOf, masksOf, linesAgree, curvesAgree}

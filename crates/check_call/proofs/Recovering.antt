@@ -8,13 +8,13 @@ use mathlib.Core.Bool.{true}
 use mathlib.Core.List.{List, _∷_, _++_, append-nil}
 use mathlib.Core.Logic.{_≢_}
 use Prim.Native.Nat.{ℕ, zero, suc, _+_, _*_, _-_, _/_, _%_, _≤_, _<_}
-use native.Mathlib.Nat.{zero-add, zero-mod, zero-div, div-le-self}
+use native.Mathlib.Nat.{zero-add, zero-mod, zero-div, div-le-self, mul-comm, mul-suc, add-mul, div-lt-iff-lt-mul}
 use native.Mathlib.Numerals.{add-one}
 use native.Mathlib.Omega.{arith}
 use lib.ListN.{length, set, take, length-set}
 use lib.Seq.{take-suc-set, take-all, append-snoc}
 use Rattle.sheet_size.specs.Size.{within}
-use Rattle.point_darts.specs.Dart.{mark, dart}
+use Rattle.point_darts.specs.Dart.{mark, points, slots, dart}
 use Rattle.sheet_size.proofs.Limit.{within-limits}
 use Rattle.paper.specs.Joining.{at}
 use Rattle.paper.specs.Drawing.{recover, recovered}
@@ -79,6 +79,13 @@ module _ (w h : ℕ) (s l : List ℕ) where
     unfolding dart mark
     recovering-fit e b =
         omega (arith, f .line, div-le-self i w, cells-fit w h e, within-limits w h e .widest)
+
+    -- and are those of the sheet
+    pub recovering-in : 0 < w → i < w * h → dart p 3 < slots w h
+    unfolding dart slots points
+    recovering-in z b =
+        let l : i / w < h = div-lt-iff-lt-mul z .1 (rw (mul-comm h w) b) in
+        rw (add-one h, mul-suc (w + 1) h, add-mul w 1 h) (omega (arith, f .line))
 
     module _ (d u : ℕ) (g : d ≡ dart p 3) (e : u ≡ labelAt s d v) (b : i < w * h) where
       here : u ≡ labelAt s (hung w i) v

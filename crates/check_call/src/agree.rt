@@ -23,8 +23,9 @@ pub fn lines_agree(
     d: &mut [u16],
 ) -> bool
     requires { ⌜
-        (within width height ≡ true) × (length (now a) ≡ slots width height) × (length (now b) ≡ slots width height) ×
-        (length (now c) ≡ slots width height) × (length (now d) ≡ slots width height)
+        (within width height ≡ true) × (length (now side1) ≡ slots width height) × (length (now a) ≡ slots width height) ×
+        (length (now b) ≡ slots width height) × (length (now c) ≡ slots width height) ×
+        (length (now d) ≡ slots width height)
         ⌝ }
     ensures { λ r. ⌜
         (r ≡ linesAgree width height (now (next1 .entry)) (now (side1 .entry))) ×

@@ -7,10 +7,10 @@ use Rattle.point_darts.specs.Dart.{points}
 use Rattle.paper.specs.Level.{tops}
 use Rattle.paper.specs.Joining.{on}
 use Rattle.region_names.specs.Frame.{surround}
-use Rattle.level_lines.specs.Mask.{masked}
+use Rattle.level_masks.specs.Mask.{masked}
 use Rattle.level_lines.specs.Line.{nexts}
 use Rattle.level_lines.specs.Side.{sides}
-use Rattle.level_curves.specs.Keep.{keeps}
+use Rattle.level_kept.specs.Keep.{keeps}
 use Rattle.drawing.specs.Parts.{Lined, Kept}
 
 -- of n points

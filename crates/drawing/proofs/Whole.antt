@@ -17,11 +17,11 @@ use Rattle.paper_laws.proofs.Marks.{within-fits, on-marked, names-side-small}
 use Rattle.paper_laws.proofs.Along.{kept3-kept, Kept as Kept′}
 use Rattle.paper_laws.proofs.Joined.{parents-drawn}
 use Rattle.region_names.specs.Frame.{framed}
-use Rattle.level_lines.specs.Mask.{masked}
+use Rattle.level_masks.specs.Mask.{masked}
 use Rattle.level_lines.specs.Line.{nexts}
 use Rattle.level_lines.specs.Side.{sides}
 use Rattle.level_lines.proofs.Paper.{masked-paper, nexts-paper, sides-paper}
-use Rattle.level_curves.specs.Keep.{keeps}
+use Rattle.level_kept.specs.Keep.{keeps}
 use Rattle.level_curves.specs.Link.{keptAt, alongNext, alongOther, TwoWay}
 use Rattle.level_curves.proofs.Paper.{keeps-paper, alongNext-paper, alongOther-paper, two-way}
 use Rattle.region_parents.specs.Tops.{Rising}

@@ -16,10 +16,10 @@ use Rattle.paper.specs.Enclosure.{parent}
 use Rattle.paper.specs.Drawing.{Tables, recovered}
 use Rattle.paper.specs.Joining.{at, on}
 use Rattle.region_names.specs.Frame.{framed}
-use Rattle.level_lines.specs.Mask.{masked}
+use Rattle.level_masks.specs.Mask.{masked}
 use Rattle.level_lines.specs.Line.{nexts}
 use Rattle.level_lines.specs.Side.{sides}
-use Rattle.level_curves.specs.Keep.{keeps}
+use Rattle.level_kept.specs.Keep.{keeps}
 use Rattle.level_curves.specs.Link.{alongNext, alongOther}
 
 pub record Lined (w h : ℕ) (f m x s : List ℕ) : Type 0 where

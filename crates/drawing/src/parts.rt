@@ -1,8 +1,8 @@
-use level_curves::keep;
 use level_curves::link;
+use level_kept::keep;
 use level_lines::line;
-use level_lines::mask;
 use level_lines::side;
+use level_masks::mask;
 use level_pieces::points;
 use point_darts::dart;
 use region_parents::parent;

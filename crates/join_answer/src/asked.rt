@@ -4,8 +4,10 @@ use point_darts::dart;
 use table_entries::entry;
 ghost use mathlib.Core.Path.{_≡_};
 ghost use mathlib.Core.Bool.{true};
+ghost use lib.ListN.{length};
 ghost use Rattle.laws.specs.First.{firstFailed};
 ghost use Rattle.sheet_size.specs.Size.{within};
+ghost use Rattle.point_darts.specs.Dart.{slots};
 ghost use Rattle.paper.specs.Refusal.{nameTests};
 ghost use Rattle.answer.specs.Answer.{numberOf};
 ghost use Rattle.join_answer.specs.Asked.{asked};
@@ -43,7 +45,9 @@ pub fn asked(
     a: u16,
     b: u16,
 ) -> Answer
-    requires { ⌜ (numberOf answer ≡ 0 → within width height ≡ true) ⌝ }
+    requires { ⌜
+        (numberOf answer ≡ 0 → (within width height ≡ true) × (length (now side) ≡ slots width height))
+        ⌝ }
     ensures { λ r. ⌜ numberOf r ≡ asked answer width height (now (side .entry)) (now (parent .entry)) a b ⌝ }
 {
     if answer.number() != 0 {

@@ -155,8 +155,7 @@ module _ (w h : ℕ) (t : Tables) (a b : ℕ) (ws vs : List (List ℕ)) (v : Ans
     pub asked-ready : Ready w h t vs a b
     asked-ready =
         let l = accepted-stated w h t ws v vs c check-done in
-        let r = joinable .regions in
-        drawn-ready w h t vs a b size (rw (work, cleared-stated) l) drawn (r .0) (r .1)
+        drawn-ready w h t vs a b size (rw (work, cleared-stated) l) drawn joinable
 
     pub asked-joined : (c d e f x y : List ℕ) → vs ≡ works c d e f → (u : Tables) → u ≡ joined w h t a b
         → pair x y ≡ cleared (pair c d) → Promised Answer.Done u (works x y e f)

@@ -1,5 +1,6 @@
 use join_darts::ends;
 use point_darts::dart;
+use point_darts::dart::Dart;
 use table_entries::entry;
 ghost use mathlib.Core.Path.{_≡_};
 ghost use mathlib.Core.Bool.{true};
@@ -10,6 +11,7 @@ ghost use Rattle.point_darts.specs.Dart.{mark, points, slots, dart};
 ghost use Rattle.point_rules.specs.Turn.{pointTable};
 ghost use Rattle.paper.specs.Joining.{on, moved, close, closes};
 ghost use Rattle.join_darts.specs.Links.{links};
+ghost use Rattle.join_darts.specs.Visited.{Visited};
 ghost use Rattle.region_parents.specs.Tops.{Rising};
 
 // Darts u and v give way to darts e and f, each its own next and each the other of the other.
@@ -66,10 +68,13 @@ fn close_point(
 }
 
 // Step 4: the darts of each closed curve move to its anchor. Before has entries for the lines before the join, lines for
-// those that remain, tops the tops of their pieces.
+// those that remain, tops the tops of their pieces. The points visited are those of the darts of a list; at every other
+// point there is nothing to do.
 pub fn close(
     width: u16,
     height: u16,
+    first: u16,
+    list: &[u16],
     point_table: &[u16; 256],
     before: &[u16],
     lines: &[u16],
@@ -78,9 +83,13 @@ pub fn close(
     other: &mut [u16],
 )
     requires { ⌜
-        (within width height ≡ true) × (now «point_table» ≡ pointTable) × (length (now before) ≡ slots width height) ×
-        (length (now lines) ≡ slots width height) × (length (now next) ≡ slots width height) ×
-        (length (now tops) ≡ points width height) × Rising (now tops)
+        (within width height ≡ true) × (now «point_table» ≡ pointTable) × (length (now list) ≡ slots width height) ×
+        (length (now before) ≡ slots width height) × (length (now lines) ≡ slots width height) ×
+        (length (now next) ≡ slots width height) × (length (now tops) ≡ points width height) × Rising (now tops) ×
+        Visited (closes (on (now lines)) (now tops)) (close (on (now lines)) (now tops)) (links (now next) (now other))
+        (slots width height)
+        first
+        (now list)
         ⌝ }
     ensures { λ _. ⌜
         links (now (next .exit)) (now (other .exit)) ≡
@@ -88,10 +97,18 @@ pub fn close(
         (links (now (next .entry)) (now (other .entry)))
         ⌝ }
 {
-    let n = dart::points(width, height);
-    let mut p: u16 = 0;
-    while p < n {
-        close_point(point_table, before, lines, tops, next, other, p);
-        p += 1;
+    let n = dart::slots(width, height);
+    let mut dart = first;
+    while dart < n {
+        close_point(
+            point_table,
+            before,
+            lines,
+            tops,
+            next,
+            other,
+            Dart { number: dart }.point(),
+        );
+        dart = list[dart as usize];
     }
 }

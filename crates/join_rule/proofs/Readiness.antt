@@ -14,8 +14,10 @@ use Rattle.paper.specs.Level.{side, border, next, plain, level}
 use Rattle.paper.specs.Drawing.{Tables, drawn, drawing, Drawn}
 use Rattle.paper.specs.Joining.{on}
 use Rattle.paper.specs.Refusal.{sized, stated, used}
+use Rattle.paper.specs.Sitting.{Joinable}
 use Rattle.paper_laws.proofs.Sheet.{border-below}
 use Rattle.paper_laws.proofs.Marks.{on-marked, cells-slots, within-fits, names-side-small}
+use Rattle.paper_laws.proofs.Still.{still-joined}
 use Rattle.table_lengths.specs.Given.{tables, works}
 use Rattle.table_lengths.proofs.Tested.{stated-parent, stated-slots}
 use Rattle.join_shared.specs.Mapped.{Mapped, Bare}
@@ -56,8 +58,9 @@ used-small w h t ws a e f u =
     omega (arith, stated-parent w h t ws f, on-below (t .parent) a u, cells-slots w h, within-fits w h e)
 
 pub drawn-ready : (w h : ℕ) (t : Tables) (ws : List (List ℕ)) (a b : ℕ) → within w h ≡ true → stated w h t ws ≡ true
-    → Drawn w h t → used (t .parent) a ≡ true → used (t .parent) b ≡ true → Ready w h t ws a b
-drawn-ready w h t ws a b e f g u v =
+    → Drawn w h t → Joinable w h t a b → Ready w h t ws a b
+drawn-ready w h t ws a b e f g j =
+    let (u, v) = j .regions in
     record {
       size = e;
       sizes = f;
@@ -67,6 +70,7 @@ drawn-ready w h t ws a b e f g u v =
       plain = rw (← (g .same)) (drawing-plain w h (g .labels) e);
       curves = rw (← (g .same)) (drawing-curves w h (g .labels) e);
       bare = rw (← (g .same)) (drawing-bare w h (g .labels) e);
+      still = rw (← (g .same)) (still-joined w h (g .labels) (within-fits w h e) a b (rw (g .same) j));
     }
 
 -- Two work tables, the first of four.
@@ -91,4 +95,5 @@ ready-pair w h x s y o p a b c d i j r =
       plain = r .plain;
       curves = r .curves;
       bare = r .bare;
+      still = r .still;
     }

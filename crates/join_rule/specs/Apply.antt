@@ -1,22 +1,31 @@
 -- Joining, as it is done in the tables.
 --   pair x y        == two work tables
+--   Visits w h o l f t == the list t, which starts at f, leads to every point that step 3 is to treat, from the links l on, and to
+--                      every point that step 4 is to treat after it, where the lines o remain
 --   Ready w h t ws a b == the size is one, the tables t and the work tables ws have the stated lengths, a and b may be
---                      names, every dart that has a next has a side, the links of both levels are those of maps, and at
---                      level 3 a dart that has no next has no other
+--                      names, every dart that has a next has a side, the links of both levels are those of maps, at level 3
+--                      a dart that has no next has no other, and steps 3 and 4 change nothing away from removed curves
 use mathlib.Core.Path.{_≡_}
-use mathlib.Core.Bool.{true}
+use mathlib.Core.Bool.{Bool, true}
 use mathlib.Core.List.{List, [], _∷_}
 use Prim.Native.Nat.{ℕ, _<_}
 use Rattle.sheet_size.specs.Size.{within}
 use Rattle.laws.specs.Table.{table}
 use Rattle.point_darts.specs.Dart.{mark, slots, reversal}
+use Rattle.paper.specs.Level.{tops}
 use Rattle.paper.specs.Drawing.{Tables}
-use Rattle.paper.specs.Joining.{on}
+use Rattle.paper.specs.Joining.{Links, on, smooth, smooths, smoothed, close, closes}
 use Rattle.paper.specs.Refusal.{stated}
+use Rattle.paper.specs.Sitting.{Still}
+use Rattle.join_darts.specs.Visited.{Visited}
 use Rattle.join_shared.specs.Mapped.{Mapped, Bare}
 
 abbrev pub pair : List ℕ → List ℕ → List (List ℕ)
 pair x y = x ∷ y ∷ []
+
+pub record Visits (w h : ℕ) (o : ℕ → Bool) (l : Links) (f : ℕ) (t : List ℕ) : Type 0 where
+  pub smoothing : Visited smooths smooth l (slots w h) f t
+  pub closing : Visited (closes o (tops w h o)) (close o (tops w h o)) (smoothed w h l) (slots w h) f t
 
 pub record Ready (w h : ℕ) (t : Tables) (ws : List (List ℕ)) (a b : ℕ) : Type 0 where
   pub size : within w h ≡ true
@@ -27,3 +36,4 @@ pub record Ready (w h : ℕ) (t : Tables) (ws : List (List ℕ)) (a b : ℕ) : T
   pub plain : Mapped (t .side1) (t .next1) (table (slots w h) (reversal w))
   pub curves : Mapped (t .side1) (t .next3) (t .other3)
   pub bare : Bare (t .next3) (t .other3)
+  pub still : Still w h t a b

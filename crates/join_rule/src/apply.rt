@@ -22,13 +22,16 @@ ghost use Rattle.paper.specs.Joining.{at, on, smoothed, closed, joined};
 ghost use Rattle.paper.specs.Refusal.{cleared};
 ghost use Rattle.table_lengths.specs.Given.{tables};
 ghost use Rattle.join_darts.specs.Links.{links};
-ghost use Rattle.join_rule.specs.Apply.{pair, Ready};
+ghost use Rattle.join_rule.specs.Apply.{pair, Visits, Ready};
 
 // Steps 3 and 4 at level 3: points go, and closed curves move to their anchors. Before has entries for the lines before the
-// join, lines for those that remain; the tops of their pieces are left in top.
+// join, lines for those that remain; the tops of their pieces are left in top. The list leads to every point where there is
+// something to do.
 fn settle_curves(
     width: u16,
     height: u16,
+    first: u16,
+    list: &[u16],
     before: &[u16],
     lines: &[u16],
     next: &mut [u16],
@@ -38,7 +41,8 @@ fn settle_curves(
     requires { ⌜
         (within width height ≡ true) × (length (now before) ≡ slots width height) ×
         (length (now lines) ≡ slots width height) × (length (now next) ≡ slots width height) ×
-        (length (now top) ≡ points width height)
+        (length (now top) ≡ points width height) × (length (now list) ≡ slots width height) ×
+        Visits width height (on (now lines)) (links (now next) (now other)) first (now list)
         ⌝ }
     ensures { λ _. ⌜
         (links (now (next .exit)) (now (other .exit)) ≡
@@ -49,17 +53,39 @@ fn settle_curves(
 {
     points::top_points(width, height, lines, top);
     let point_table = turn::point_table();
-    smooth::smooth(width, height, &point_table, before, next, other);
-    close::close(width, height, &point_table, before, lines, top, next, other);
+    smooth::smooth(
+        width,
+        height,
+        first,
+        list,
+        &point_table,
+        before,
+        next,
+        other,
+    );
+    close::close(
+        width,
+        height,
+        first,
+        list,
+        &point_table,
+        before,
+        lines,
+        top,
+        next,
+        other,
+    );
 }
 
 // Steps 3 to 5 from the lines that remain and the sides before the join: curves are settled, the names a and b become the
-// smaller, parents are found. Top is work.
+// smaller, parents are found. Top is work; the list leads to every point where there is something to settle.
 fn settle(
     width: u16,
     height: u16,
     a: u16,
     b: u16,
+    first: u16,
+    list: &[u16],
     lines: &[u16],
     side: &mut [u16],
     next: &mut [u16],
@@ -70,7 +96,9 @@ fn settle(
     requires { ⌜
         (within width height ≡ true) × (length (now lines) ≡ slots width height) ×
         (length (now side) ≡ slots width height) × (length (now next) ≡ slots width height) ×
-        (length (now parents) ≡ width * height + 1) × (length (now top) ≡ points width height)
+        (length (now parents) ≡ width * height + 1) × (length (now top) ≡ points width height) ×
+        (length (now list) ≡ slots width height) ×
+        Visits width height (on (now lines)) (links (now next) (now other)) first (now list)
         ⌝ }
     ensures { λ _. ⌜
         (links (now (next .exit)) (now (other .exit)) ≡
@@ -84,7 +112,7 @@ fn settle(
         (parent width (on (now (side .exit))) (at (now (side .exit))) (tops width height (on (now (lines .entry))))))
         ⌝ }
 {
-    settle_curves(width, height, side, lines, next, other, top);
+    settle_curves(width, height, first, list, side, lines, next, other, top);
     side::lower_sides(a, b, lines, side);
     parent::find_parents(width, height, side, top, parents);
 }
@@ -130,12 +158,14 @@ pub fn apply(
         height,
         a,
         b,
+        first3,
+        list,
         next1,
         side1,
         next3,
         other3,
         parent,
-        &mut list[..n],
+        &mut back[..n],
     );
     entry::clear(back);
     entry::clear(list);

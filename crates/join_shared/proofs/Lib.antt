@@ -1,5 +1,5 @@
 pub mod Chasing
 pub mod Leading
-mod Sharing
+pub mod Sharing
 pub mod Sides
 mod Treating

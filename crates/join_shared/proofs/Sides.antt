@@ -32,8 +32,3 @@ module _ (s : List ℕ) (o : ℕ → ℕ) (a b d x : ℕ) (e : x ≡ at s d) whe
   pub shared-neither : (x ≡ a → ⊥) → (x ≡ b → ⊥) → false ≡ shared s o a b d
   unfolding shared between
   shared-neither n m = rw (← e, ne-eqb x a n, ne-eqb x b m)
-
--- the side across a dart
-pub across-side : (s o : List ℕ) (d x v name : ℕ) → x ≡ at o d → v ≡ at s x
-    → eqb v name ≡ eqb (at s (at o d)) name
-across-side s o d x v name e f = rw (f, e)

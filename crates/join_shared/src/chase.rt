@@ -3,31 +3,19 @@ use point_darts::dart;
 use table_entries::entry;
 ghost use mathlib.Core.Path.{_≡_};
 ghost use mathlib.Core.Bool.{cond};
-ghost use lib.Dec.{eqb};
 ghost use Rattle.point_darts.specs.Dart.{mark};
 ghost use Rattle.paper.specs.Joining.{at, shared, chase};
 ghost use Rattle.join_darts.specs.Links.{links};
 ghost use Rattle.join_shared.specs.Led.{leaping, led};
 
-// Whether the other of a dart has a name for its side.
-fn is_across(side: &[u16], other: &[u16], name: u16, dart: u16) -> bool
-    ensures { λ r. ⌜ r ≡ eqb (at (now (side .entry)) (at (now (other .entry)) dart)) name ⌝ }
-{
-    entry::get(side, entry::get(other, dart)) == name
-}
-
-// Whether a dart has the sides a and b.
+// Whether a dart has the sides a and b. Both sides are read and both ways compared, since which of the two regions a dart
+// bounds is hard to foresee.
 fn is_shared(side: &[u16], other: &[u16], a: u16, b: u16, dart: u16) -> bool
     ensures { λ r. ⌜ r ≡ shared (now (side .entry)) (at (now (other .entry))) a b dart ⌝ }
 {
     let right = entry::get(side, dart);
-    if right == a {
-        return is_across(side, other, b, dart);
-    }
-    if right == b {
-        return is_across(side, other, a, dart);
-    }
-    false
+    let left = entry::get(side, entry::get(other, dart));
+    (right == a) & (left == b) | (right == b) & (left == a)
 }
 
 // Where a chase goes on from a dart: from one with the sides a and b to the next of its other, from any other nowhere.

@@ -1,5 +1,6 @@
 use join_darts::ends;
 use point_darts::dart;
+use point_darts::dart::Dart;
 use table_entries::entry;
 ghost use mathlib.Core.Path.{_≡_};
 ghost use mathlib.Core.Bool.{true};
@@ -9,8 +10,9 @@ ghost use lib.ListN.{length};
 ghost use Rattle.sheet_size.specs.Size.{within};
 ghost use Rattle.point_darts.specs.Dart.{mark, slots, dart};
 ghost use Rattle.point_rules.specs.Turn.{pointTable};
-ghost use Rattle.paper.specs.Joining.{spliced, smooth, smoothed};
+ghost use Rattle.paper.specs.Joining.{spliced, smooth, smooths, smoothed};
 ghost use Rattle.join_darts.specs.Links.{links, splice};
+ghost use Rattle.join_darts.specs.Visited.{Visited};
 
 // Darts u and v go; the next of their others x and y become those of v and u.
 fn splice_next(next: &mut [u16], u: u16, v: u16, x: u16, y: u16)
@@ -74,28 +76,37 @@ fn smooth_point(
 }
 
 // Step 3: the points that two darts of two different edges alone leave go, one after another. Before has entries for the
-// lines before the join.
+// lines before the join. The points visited are those of the darts of a list; at every other point there is nothing to do.
 pub fn smooth(
     width: u16,
     height: u16,
+    first: u16,
+    list: &[u16],
     point_table: &[u16; 256],
     before: &[u16],
     next: &mut [u16],
     other: &mut [u16],
 )
     requires { ⌜
-        (within width height ≡ true) × (now «point_table» ≡ pointTable) × (length (now before) ≡ slots width height) ×
-        (length (now next) ≡ slots width height)
+        (within width height ≡ true) × (now «point_table» ≡ pointTable) × (length (now list) ≡ slots width height) ×
+        (length (now before) ≡ slots width height) × (length (now next) ≡ slots width height) ×
+        Visited smooths smooth (links (now next) (now other)) (slots width height) first (now list)
         ⌝ }
     ensures { λ _. ⌜
         links (now (next .exit)) (now (other .exit)) ≡
         smoothed width height (links (now (next .entry)) (now (other .entry)))
         ⌝ }
 {
-    let n = dart::points(width, height);
-    let mut p: u16 = 0;
-    while p < n {
-        smooth_point(point_table, before, next, other, p);
-        p += 1;
+    let n = dart::slots(width, height);
+    let mut dart = first;
+    while dart < n {
+        smooth_point(
+            point_table,
+            before,
+            next,
+            other,
+            Dart { number: dart }.point(),
+        );
+        dart = list[dart as usize];
     }
 }

@@ -35,6 +35,14 @@ module _ (k : ℕ → Bool) (p q x : ℕ) where
   instead-kept : x ≢ p → k x ≡ true → instead k p q x ≡ true
   instead-kept n h = with-kept (without k p) q x (without-else k p x n ∙ h)
 
+-- a kept point that gives way to itself stays kept
+pub instead-own : (k : ℕ → Bool) (p : ℕ) → k p ≡ true → (x : ℕ) → instead k p p x ≡ k x
+instead-own k p h x = go (ℕ-discrete x p)
+  where
+    go : Dec (x ≡ p) → instead k p p x ≡ k x
+    go (yes e) = with-at (without k p) p x e ∙ sym (ap k e ∙ h)
+    go (no e) = with-else (without k p) p x e ∙ without-else k p x e
+
 -- The orbit of a dart at a kept point that is not big is clear.
 module _ {m : Map} {big k : ℕ → Bool} (c : Chart m) (g : Loops m big k) where
   open Map m using (on, pt)

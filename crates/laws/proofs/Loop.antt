@@ -16,7 +16,7 @@ use Rattle.laws.proofs.Chart.{Map, Chart, times, last, Covers, Passes, 
 use Rattle.laws.proofs.Orbit.{times-suc, orbit-on}
 use Rattle.laws.proofs.Test.{clash}
 use Rattle.laws.proofs.Walk.{run-end, run-before}
-use Rattle.laws.proofs.Level.{leads, last-run, last-on, last-kept}
+use Rattle.laws.proofs.Level.{leads, last-run, last-on}
 use Rattle.laws.proofs.Over.{next, other, without, Entry, Over, entry-stays}
 use Rattle.laws.proofs.Over.{without-off, without-at, without-else}
 use Rattle.laws.proofs.Meet.{Meets, Two, two-swap, two-turn, times-none, round-about, after-at}
@@ -103,7 +103,8 @@ module _ {m : Map} {k : ℕ → Bool} (c : Chart m) (w : Covers m k) where
       let (l, b, z) = round-about nx j d (times-suc nx j d ∙ ap nx (sym (run-end r)) ∙ e) i in
       go l j b (sym a ∙ ap pt z) (run-before r)
     where
-      go : (l j : ℕ) → l ≤ j → q ≡ pt (times nx l d) → ((i : ℕ) → i < j → leads m k (times nx i d) ≡ false) → q ≡ pt d
+      go : (l j : ℕ) → l ≤ j → q ≡ pt (times nx l d) → ((i : ℕ) → i < j → leads m k (times nx i d) ≡ false)
+          → q ≡ pt d
       go zero j b z before = z ∙ ap pt (times-none nx d)
       go (suc l) j b z before = clash g (ap k (z ∙ after-at c l d h) ∙ before l b)
 
@@ -155,11 +156,17 @@ module _ {m : Map} {k : ℕ → Bool} (c : Chart m) (w : Covers m k) where
       let back = ap (other m k) (sym e) ∙ other-other c w s u (t .one) (ap k (t .one-at) ∙ kp) in
       (two-loop-one t e, two-loop-one (two-swap t) back)
 
-  -- a loop stays one when another point is taken out
-  pub loop-stays : (p d : ℕ) → on d ≡ true → pt d ≢ p → next m k d ≡ d → next m (without k p) d ≡ d
-  loop-stays p d h q e =
-      let far : pt (other m k d) ≢ p = λ a. q (ap pt (sym e) ∙ next-at c w d h ∙ a) in
-      ap nx (last-same c w (without-off k p) d h (without-else k p _ far ∙ last-kept c w d h)) ∙ e
+  -- and of a loop they are each other's other
+  pub loop-two : {p u v : ℕ} → Two m p u v → next m k u ≡ u → other m k u ≡ v
+  loop-two {u = u} t e =
+      ⊎-elim (λ q. absurd (other-apart c w u (t .one) q)) (λ q. q)
+      (t .only (other m k u) (other-on c w u (t .one)) (sym (next-at c w u (t .one)) ∙ ap pt e ∙ t .one-at))
+
+  -- a loop stays one when fewer points are kept, its own among them
+  pub loop-fewer : {l : ℕ → Bool} → ((q : ℕ) → k q ≡ false → l q ≡ false) → (d : ℕ) → on d ≡ true
+      → l (pt d) ≡ true → next m k d ≡ d → next m l d ≡ d
+  loop-fewer {l} fewer d h i e =
+      ap nx (last-same c w fewer d h (ap l (sym (next-at c w d h) ∙ ap pt e) ∙ i)) ∙ e
 
   module _ {big : ℕ → Bool} where
     -- where the point's two darts are each other's other
@@ -177,7 +184,7 @@ module _ {m : Map} {k : ℕ → Bool} (c : Chart m) (w : Covers m k) where
             → next m (without k p) d ≡ d
         go d h e b q (yes a) = clash e (without-at k p (pt d) a)
         go d h e b q (no a) =
-            loop-stays p d h a (l .loop d h (sym (without-else k p (pt d) a) ∙ e) b (omega arith))
+            loop-fewer (without-off k p) d h e (l .loop d h (sym (without-else k p (pt d) a) ∙ e) b (omega arith))
 
 -- The level of a loopy test depends on the big points, and else on nothing but which points are kept.
 module _ {m : Map} {big : ℕ → Bool} (c : Chart m) (f : Few m big) where
@@ -189,10 +196,7 @@ module _ {m : Map} {big : ℕ → Bool} (c : Chart m) (f : Few m big) where
 
     -- at a kept point that is not big other is the point's other dart
     pub loop-other : (d : ℕ) → on d ≡ true → k (pt d) ≡ true → big (pt d) ≡ false → other m k d ≡ nx (rev d)
-    loop-other d h e b =
-        ⊎-elim (λ q. absurd (other-apart c (g .covers) d h q)) (λ q. q)
-        (few-two c f d h b .only (other m k d) (other-on c (g .covers) d h)
-        (sym (next-at c (g .covers) d h) ∙ ap pt (g .loopy .loop d h e b)))
+    loop-other d h e b = loop-two c (g .covers) (few-two c f d h b) (g .loopy .loop d h e b)
 
     -- the run from a big point leads to a big point
     pub big-there : (d : ℕ) → on d ≡ true → big (pt d) ≡ true → big (pt (other m k d)) ≡ true

@@ -16,10 +16,10 @@ use Rattle.paper_laws.proofs.Sheet.{border-lines}
 use Rattle.paper_laws.proofs.Marks.{on-marked, names-side-small, lines-inside, within-fits}
 use Rattle.paper_laws.proofs.Along.{Kept, kept2-kept, kept3-kept}
 use Rattle.region_names.specs.Frame.{framed}
-use Rattle.level_lines.specs.Mask.{masked, ruled}
+use Rattle.level_masks.specs.Mask.{masked, ruled}
 use Rattle.level_lines.specs.Line.{nexts}
 use Rattle.level_lines.specs.Side.{sides}
-use Rattle.level_curves.specs.Keep.{bends, keeps}
+use Rattle.level_kept.specs.Keep.{bends, keeps}
 use Rattle.level_curves.specs.Link.{keptAt, TwoWay}
 use Rattle.level_lines.proofs.Paper.{drafted, nexts-paper, others-paper, masked-paper, sides-paper}
 use Rattle.level_curves.proofs.Paper.{bends-paper, keeps-paper, alongNext-paper, alongOther-paper, trimmed-paper, two-way}

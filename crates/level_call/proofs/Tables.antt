@@ -14,10 +14,10 @@ use Rattle.paper.specs.Joining.{on}
 use Rattle.paper.specs.Refusal.{levelTables}
 use Rattle.paper_laws.proofs.Marks.{within-fits}
 use Rattle.region_names.specs.Frame.{framed}
-use Rattle.level_lines.specs.Mask.{masked, plainMasks}
+use Rattle.level_masks.specs.Mask.{masked, plainMasks}
 use Rattle.level_lines.specs.Line.{nexts, others}
 use Rattle.level_lines.specs.Side.{sides}
-use Rattle.level_curves.specs.Keep.{bends, keeps}
+use Rattle.level_kept.specs.Keep.{bends, keeps}
 use Rattle.level_curves.specs.Link.{alongNext, alongOther}
 use Rattle.table_entries.specs.Trim.{trimmed}
 use Rattle.level_call.specs.Tables.{plainTables, alongTables, keptPoints, tablesOf}

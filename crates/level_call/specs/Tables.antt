@@ -13,10 +13,10 @@ use Rattle.paper.specs.Name.{names}
 use Rattle.paper.specs.Level.{tops}
 use Rattle.paper.specs.Joining.{on}
 use Rattle.region_names.specs.Frame.{framed}
-use Rattle.level_lines.specs.Mask.{masked, ruled}
+use Rattle.level_masks.specs.Mask.{masked, ruled}
 use Rattle.level_lines.specs.Line.{nexts, others}
 use Rattle.level_lines.specs.Side.{sides}
-use Rattle.level_curves.specs.Keep.{bends, keeps}
+use Rattle.level_kept.specs.Keep.{bends, keeps}
 use Rattle.level_curves.specs.Link.{alongNext, alongOther}
 use Rattle.table_entries.specs.Trim.{trimmed}
 

@@ -1,8 +1,8 @@
-use level_curves::keep;
 use level_curves::link;
+use level_kept::keep;
 use level_lines::line;
-use level_lines::mask;
 use level_lines::side;
+use level_masks::mask;
 use level_pieces::points;
 use point_darts::dart;
 use table_entries::entry;
@@ -15,7 +15,7 @@ ghost use Rattle.sheet_size.specs.Size.{within};
 ghost use Rattle.point_darts.specs.Dart.{points, slots};
 ghost use Rattle.paper.specs.Level.{tops};
 ghost use Rattle.paper.specs.Joining.{on};
-ghost use Rattle.level_curves.specs.Keep.{keeps};
+ghost use Rattle.level_kept.specs.Keep.{keeps};
 ghost use Rattle.level_call.specs.Tables.{keptPoints, tablesOf, Surrounded};
 
 // The points that level 3 keeps, from the lines of level 1 and their sides. The tops of the pieces are found in a table

@@ -1,6 +1,6 @@
 use level_lines::line;
-use level_lines::mask;
 use level_lines::side;
+use level_masks::mask;
 ghost use mathlib.Core.Path.{_≡_};
 ghost use mathlib.Core.Bool.{true};
 ghost use mathlib.Core.List.{[], _∷_};

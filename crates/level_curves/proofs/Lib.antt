@@ -1,4 +1,3 @@
-pub mod Flags
 mod Linking
 pub mod Paper
 pub mod Running

@@ -27,11 +27,11 @@ use Rattle.paper_laws.proofs.Marks.{lines-inside, along-on, next-small, along-n
 use Rattle.paper_laws.proofs.Sheet.{sheet, sheet-chart, border-lines}
 use Rattle.paper_laws.proofs.Along.{Kept, level-map, last-last, along-chart, other-stays, other-other}
 use Rattle.level_lines.proofs.Paper.{drafted, drafted-at}
-use Rattle.level_curves.specs.Keep.{kindAt, large, bends, stands, anchored, keeps}
+use Rattle.level_kept.specs.Keep.{kindAt, large, bends, stands, anchored, keeps}
 use Rattle.level_curves.specs.Link.{ahead, keptAt, starts, lastOf, back, alongNext, alongOther}
 use Rattle.level_curves.specs.Link.{nextAlong, otherAlong, TwoWay}
 use Rattle.table_entries.specs.Trim.{trimmed}
-use Rattle.level_curves.proofs.Flags.{number-once}
+use Rattle.level_kept.proofs.Flags.{number-once}
 
 -- an entry of a list does not depend on what would stand past its end
 entry-same : (t : List ℕ) (i y z : ℕ) → i < length t → getD t i y ≡ getD t i z

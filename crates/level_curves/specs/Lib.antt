@@ -1,2 +1,1 @@
-pub mod Keep
 pub mod Link

@@ -1,3 +1,2 @@
-// Levels 2 and 3: the points that they keep, and the links along the lines of level 1 from each kept point to the next.
-pub mod keep;
+// Levels 2 and 3: the links along the lines of level 1 from each kept point to the next.
 pub mod link;

@@ -5,7 +5,7 @@ use Prim.Native.Nat.{ℕ, _<_}
 use Rattle.point_darts.specs.Dart.{dart}
 use Rattle.point_darts.specs.Point.{right}
 use Rattle.point_darts.proofs.Darts.{point-dart, direction-dart}
-use Rattle.level_lines.specs.Mask.{around}
+use Rattle.level_masks.specs.Mask.{around}
 use Rattle.level_lines.specs.Side.{beheld}
 
 pub beheld-dart : (w p : ℕ) (f : List ℕ) (k : ℕ) → k < 4 → right (around w f p) k ≡ beheld w f (dart p k)

@@ -1,5 +1,3 @@
 mod Beheld
-mod Drafting
 pub mod Paper
 pub mod Pointing
-pub mod Ruling

@@ -4,7 +4,6 @@ use mathlib.Core.Path.{_≡_, refl, sym, _∙_, ap}
 use mathlib.Core.Bool.{Bool, true}
 use mathlib.Core.List.{List}
 use Prim.Native.Nat.{ℕ, _<_}
-use native.Mathlib.Omega.{arith}
 use borrow.Author.Tests.{lt-ltb}
 use Rattle.laws.specs.Table.{table}
 use Rattle.laws.proofs.Table.{getD-table, table-agree}
@@ -12,7 +11,7 @@ use Rattle.point_darts.specs.Dart.{mark, points, slots, point, direction, far, 
 use Rattle.point_darts.specs.Point.{right, present}
 use Rattle.point_rules.specs.Turn.{turnOf}
 use Rattle.point_darts.proofs.Darts.{dart-own, direction-below}
-use Rattle.point_darts.proofs.Reach.{line-far}
+use Rattle.point_darts.proofs.Reach.{slot-point, line-far}
 use Rattle.paper.specs.Name.{cells}
 use Rattle.paper.specs.Level.{side, border, mask, next, marked}
 use Rattle.paper.specs.Joining.{at}
@@ -21,17 +20,12 @@ use Rattle.paper_laws.proofs.Sheet.{mask-present}
 use Rattle.paper_laws.proofs.Marks.{marked-same}
 use Rattle.region_names.specs.Frame.{framed}
 use Rattle.region_names.proofs.Surround.{cells-framed}
-use Rattle.level_lines.specs.Mask.{around, masked}
+use Rattle.level_masks.specs.Mask.{around, masked}
 use Rattle.level_lines.specs.Line.{lined, onward, nexts, others}
 use Rattle.level_lines.specs.Side.{beheld, sides}
 
 abbrev pub drafted : ℕ → ℕ → (ℕ → Bool) → List ℕ
 drafted w h o = table (points w h) (mask o)
-
--- where a slot's point is
-slot-point : (w h d : ℕ) → d < slots w h → point d < points w h
-unfolding slots point
-slot-point w h d l = omega arith
 
 -- Lines at points.
 module _ (w h : ℕ) (o : ℕ → Bool) where

@@ -4,13 +4,16 @@
 use mathlib.Core.Path.{_≡_, refl, _∙_}
 use mathlib.Core.Bool.{Bool, true, false, cond, _&&_}
 use mathlib.Core.List.{List}
-use Prim.Native.Nat.{ℕ, _+_, _*_, _/_, _%_, _≤_, _<_}
+use Prim.Native.Nat.{ℕ, _+_, _*_, _-_, _/_, _%_, _≤_, _<_}
+use native.Mathlib.Nat.{mul-le-mul-left}
 use native.Mathlib.Omega.{arith}
 use lib.Dec.{eqb, ltb, lit<}
 use lib.ListN.{getD, length}
-use Rattle.point_darts.specs.Dart.{mark, dart, beside, turned}
+use Rattle.sheet_size.specs.Size.{within}
+use Rattle.point_darts.specs.Dart.{mark, points, dart, beside, turned}
 use Rattle.point_darts.specs.Point.{half, has}
 use Rattle.point_rules.specs.Turn.{turn, turnOf}
+use Rattle.sheet_size.proofs.Limit.{within-limits}
 use Rattle.point_darts.proofs.Back.{beside-le}
 use Rattle.point_darts.proofs.Darts.{point-dart, direction-dart, turned-below, far-dart}
 use Rattle.paper.specs.Joining.{at}
@@ -74,11 +77,38 @@ beside-fit w p a b c d l e = (fits 0 a (e .0), fits 1 b (e .1), fits 2 c (e .2),
     fits k q e = omega (arith, l, e, beside-le w p k)
 
 -- next at the darts of a point, where q is the point that the dart leads to, and the lines there are l
-pub onward-dart : (w p : ℕ) (m : List ℕ) (k q l r : ℕ) → k < 4 → q ≡ beside w p k → l ≡ at m q → r ≡ dart q (turnOf l k)
+onward-dart : (w p : ℕ) (m : List ℕ) (k q l r : ℕ) → k < 4 → q ≡ beside w p k → l ≡ at m q → r ≡ dart q (turnOf l k)
     → r ≡ onward w m (dart p k)
 unfolding onward
 onward-dart w p m k q l r b e g f = f ∙ rw (far-dart w p k b, direction-dart p k b, ← e, g)
 
+-- next at the four darts of a point: a, b, c and d are the points beside it, i, j, k and l the lines there
+module _ (w p : ℕ) (m t : List ℕ) {u : List ℕ} {a b c d i j k l x y z n : ℕ}
+    (far : (a ≡ beside w p 0) × (b ≡ beside w p 1) × (c ≡ beside w p 2) × (d ≡ beside w p 3))
+    (along : (x ≡ dart a (turnOf i 0)) × (y ≡ dart b (turnOf j 1)) × (z ≡ dart c (turnOf k 2)) × (n ≡ dart d (turnOf l 3)))
+    (put : (f : ℕ → ℕ) → x ≡ f (dart p 0) → y ≡ f (dart p 1) → z ≡ f (dart p 2) → n ≡ f (dart p 3)
+    → u ≡ pointed (entryOf m f) p t) where
+  pub next-is : (i ≡ at m a) × (j ≡ at m b) × (k ≡ at m c) × (l ≡ at m d) → u ≡ pointed (entryOf m (onward w m)) p t
+  next-is e =
+      put (onward w m) (onward-dart w p m 0 a i x (lit< tt) (far .0) (e .0) (along .0))
+      (onward-dart w p m 1 b j y (lit< tt) (far .1) (e .1) (along .1))
+      (onward-dart w p m 2 c k z (lit< tt) (far .2) (e .2) (along .2))
+      (onward-dart w p m 3 d l n (lit< tt) (far .3) (e .3) (along .3))
+
+  -- where the lines south and north are given
+  pub next-beside : {s v : ℕ} → (i ≡ at m (p + 1)) × (j ≡ s) × (k ≡ at m (p - 1)) × (l ≡ v)
+      → s ≡ at m (p + (w + 1)) → v ≡ at m (p - (w + 1)) → u ≡ pointed (entryOf m (onward w m)) p t
+  unfolding beside
+  next-beside e f g =
+      next-is (rw (far .0) (e .0), rw (far .1) (e .1 ∙ f), rw (far .2) (e .2), rw (far .3) (e .3 ∙ g))
+
 -- the lines at a point in the table
 pub lines-in : (m : List ℕ) (q i : ℕ) → q ≡ i → i < length m → getD m i 0 ≡ at m q
 lines-in m q i e b = rw e (at-in m i b)
+
+-- a sheet has two rows of points or more
+pub two-rows : (w h : ℕ) → within w h ≡ true → w + 1 + (w + 1) ≤ points w h
+unfolding points
+two-rows w h e =
+    let l : 2 ≤ h + 1 = omega (arith, within-limits w h e) in
+    omega (arith, mul-le-mul-left (w + 1) l)

@@ -1,3 +1,2 @@
 pub mod Line
-pub mod Mask
 pub mod Side

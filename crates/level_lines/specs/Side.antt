@@ -6,7 +6,7 @@ use Prim.Native.Nat.{ℕ}
 use Rattle.point_darts.specs.Dart.{point, direction}
 use Rattle.point_darts.specs.Point.{right}
 use Rattle.paper.specs.Level.{marked}
-use Rattle.level_lines.specs.Mask.{around}
+use Rattle.level_masks.specs.Mask.{around}
 use Rattle.level_lines.specs.Line.{lined}
 
 unfoldable pub beheld : ℕ → List ℕ → ℕ → ℕ

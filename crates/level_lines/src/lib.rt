@@ -1,4 +1,3 @@
-// Levels 0 and 1: the lines at each point, as tables of masks; from these the next and other of each dart, and its side.
+// Levels 0 and 1: from the masks of the points the next and other of each dart, and its side.
 pub mod line;
-pub mod mask;
 pub mod side;

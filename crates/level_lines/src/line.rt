@@ -5,12 +5,13 @@ use point_rules::turn;
 use table_entries::entry;
 ghost use mathlib.Core.Path.{_≡_};
 ghost use mathlib.Core.Bool.{true, cond};
-ghost use Prim.Native.Nat.{ℕ, _+_, _*_, _≤_, _<_};
+ghost use Prim.Native.Nat.{ℕ, _+_, _*_, _-_, _≤_, _<_};
 ghost use lib.Dec.{eqb};
 ghost use lib.ListN.{length};
 ghost use Rattle.sheet_size.specs.Size.{within};
 ghost use Rattle.point_darts.specs.Dart.{mark, points, slots, dart, reversal};
 ghost use Rattle.point_rules.specs.Turn.{turnOf};
+ghost use Rattle.paper.specs.Joining.{at};
 ghost use Rattle.table_entries.specs.Pointed.{pointed};
 ghost use Rattle.level_lines.specs.Line.{onward, nexts, others, entryOf};
 
@@ -83,36 +84,29 @@ fn next_at(width: u16, masks: &[u16], next: &mut [u16], p: u16)
     put_present(masks, next, p, follow_four(far, lines));
 }
 
-// The same, of a point that is in neither the first row nor the last. No place is asked whether it is in the table, so the
-// compiler takes many points at a time.
-fn next_inside(width: u16, masks: &[u16], next: &mut [u16], p: u16)
-    requires { ⌜
-        (width + 1 ≤ p) × (p + (width + 1) < length (now masks)) × (dart p 3 + 4 * (width + 2) < mark) ×
-        (dart p 3 < length (now next))
-        ⌝ }
-    ensures { λ _. ⌜
-        now (next .exit) ≡
-        pointed (entryOf (now (masks .entry)) (onward width (now (masks .entry)))) p (now (next .entry))
+// The lines at the four points beside a point, of which those south and north are given. No place is asked whether it is in
+// the table, so the compiler takes many points at a time.
+fn lines_beside(masks: &[u16], p: u16, south: u16, north: u16) -> Four
+    requires { ⌜ (1 ≤ p) × (p + 1 < length (now masks)) ⌝ }
+    ensures { λ r. ⌜
+        (r .east ≡ at (now (masks .entry)) (p + 1)) × (r .south ≡ south) × (r .west ≡ at (now (masks .entry)) (p - 1)) ×
+        (r .north ≡ north)
         ⌝ }
 {
-    let far = dart::besides(p, width);
     let i = p as usize;
-    let row = (width + 1) as usize;
     let east = masks[i + 1];
-    let south = masks[i + row];
     let west = masks[i - 1];
-    let north = masks[i - row];
-    let lines = Four {
+    Four {
         east,
         south,
         west,
         north,
-    };
-    put_present(masks, next, p, follow_four(far, lines));
+    }
 }
 
 // The table of next of the lines that the masks have: at the far point the first line present of right turn, straight on,
-// left turn and back. The first and the last row of points are passes of their own.
+// left turn and back. North of the first row of points stands point 0, and south of the last row none, so each of the two is a
+// pass of its own. The first and the last point are taken alone.
 pub fn nexts(width: u16, height: u16, masks: &[u16], next: &mut [u16])
     requires { ⌜
         (within width height ≡ true) × (length (now masks) ≡ points width height) ×
@@ -122,19 +116,29 @@ pub fn nexts(width: u16, height: u16, masks: &[u16], next: &mut [u16])
 {
     let n = dart::points(width, height);
     let row = width + 1;
-    let mut p: u16 = 0;
+    next_at(width, masks, next, 0);
+    let mut p: u16 = 1;
     while p < row {
-        next_at(width, masks, next, p);
+        let far = dart::besides(p, width);
+        let lines = lines_beside(masks, p, masks[(p + row) as usize], masks[0]);
+        put_present(masks, next, p, follow_four(far, lines));
         p += 1;
     }
     while p < n - row {
-        next_inside(width, masks, next, p);
+        let far = dart::besides(p, width);
+        let south = masks[(p + row) as usize];
+        let north = masks[(p - row) as usize];
+        let lines = lines_beside(masks, p, south, north);
+        put_present(masks, next, p, follow_four(far, lines));
         p += 1;
     }
-    while p < n {
-        next_at(width, masks, next, p);
+    while p < n - 1 {
+        let far = dart::besides(p, width);
+        let lines = lines_beside(masks, p, dart::MARK, masks[(p - row) as usize]);
+        put_present(masks, next, p, follow_four(far, lines));
         p += 1;
     }
+    next_at(width, masks, next, p);
 }
 
 // Other of the four darts that leave a point: the reversals.

@@ -1,5 +1,5 @@
 use crate::line;
-use crate::mask;
+use level_masks::mask;
 use point_cells::point;
 use point_darts::dart;
 use point_darts::dart::Dart;

@@ -3,16 +3,18 @@
 --   Sitting w h t u    == joins, one after another, lead from the tables t to the tables u
 --   Midway w h t a b l == the links l are those of level 3 when step 3, or step 4 after it, has treated some points
 --   Away t a b p       == no level 3 curve of t that the join of a and b removes has an end at the point p
+--   Still w h t a b    == steps 3 and 4 of the join change nothing at a point where no removed curve ends, nor at one that
+--                      they have treated
 --   Untouched t a b d  == neither end of the level 3 curve of dart d touches a removed curve
 --   Keeps t u d        == dart d and its other have the same next and other in t and in u
 use mathlib.Core.Path.{_≡_}
 use mathlib.Core.Bool.{true}
-use mathlib.Core.Logic.{_≢_}
-use Prim.Native.Nat.{ℕ}
+use mathlib.Core.Logic.{_⊎_, _≢_}
+use Prim.Native.Nat.{ℕ, _<_}
 use Rattle.point_darts.specs.Dart.{point}
 use Rattle.paper.specs.Level.{tops}
 use Rattle.paper.specs.Drawing.{Tables}
-use Rattle.paper.specs.Joining.{Links, at, on, shared, rest1, rest3, smooths, smoothed, closes, joined}
+use Rattle.paper.specs.Joining.{Links, at, on, shared, rest1, rest3, smooth, smooths, smoothed, close, closes, joined}
 use Rattle.paper.specs.Refusal.{used, adjoin}
 
 pub record Joinable (w h : ℕ) (t : Tables) (a b : ℕ) : Type 0 where
@@ -34,6 +36,16 @@ pub data Midway (w h : ℕ) (t : Tables) (a b : ℕ) : Links → Type 0 where
 
 abbrev pub Away : Tables → ℕ → ℕ → ℕ → Type 0
 Away t a b p = (g : ℕ) → on (t .next3) g ≡ true → shared (t .side1) (at (t .other3)) a b g ≡ true → point g ≢ p
+
+-- after i points a step at such a point changes nothing
+abbrev pub Idle : Tables → ℕ → ℕ → (Links → ℕ → Links) → (ℕ → Links) → Type 0
+Idle t a b step after = (i p : ℕ) → Away t a b p ⊎ (p < i) → step (after i) p ≡ after i
+
+pub record Still (w h : ℕ) (t : Tables) (a b : ℕ) : Type 0 where
+  pub smoothing : Idle t a b smooth (λ i. smooths i 0 (rest3 w h t a b))
+  pub closing :
+      let o = on (rest1 w h t a b .next) in
+      Idle t a b (close o (tops w h o)) (λ i. closes o (tops w h o) i 0 (smoothed w h (rest3 w h t a b)))
 
 pub record Untouched (t : Tables) (a b d : ℕ) : Type 0 where
   pub near : Away t a b (point d)

@@ -24,6 +24,7 @@ use Rattle.point_darts.proofs.Points.{bits-same}
 use Rattle.point_rules.proofs.Turns.{has-degree}
 use Rattle.paper.specs.Level.{mask, big}
 use Rattle.paper.specs.Joining.{Links, at, on, low, high}
+use Rattle.paper_laws.proofs.Marks.{same-at}
 use Rattle.paper_laws.proofs.Removed.{on-links}
 use Rattle.paper_laws.proofs.Pair.{two-darts}
 use Rattle.paper_laws.proofs.Next.{has-mask}
@@ -39,6 +40,14 @@ pub record Held (w h : ℕ) (x : Map) (k : ℕ → Bool) (l : Links) : Type 0 wh
   pub over : Over mark x k (at (l .next)) (at (l .other))
   pub nexts : length (l .next) ≡ slots w h
   pub others : length (l .other) ≡ slots w h
+
+-- the tables of a level are the only ones
+pub held-same : {w h : ℕ} {x : Map} {k : ℕ → Bool} {l j : Links} → Held w h x k l → Held w h x k j → l ≡ j
+held-same {w} {h} {l = l} {j = j} g f =
+    λ i. record {
+      next = same-at (slots w h) (l .next) (j .next) (g .nexts) (f .nexts) (λ d _. g .over .nexts d ∙ sym (f .over .nexts d)) i;
+      other = same-at (slots w h) (l .other) (j .other) (g .others) (f .others) (λ d _. g .over .others d ∙ sym (f .over .others d)) i;
+    }
 
 -- a table with one entry set
 pub at-set : (t : List ℕ) (y v : ℕ) → y < length t → (d : ℕ) → at (set t y v) d ≡ put (at t) y v d

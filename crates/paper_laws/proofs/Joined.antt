@@ -34,7 +34,7 @@ use Rattle.paper_laws.proofs.Sheet.{border-alone, border-back, border-b
 use Rattle.paper_laws.proofs.Fewer.{fewer-border, fewer-next, fewer-lines, fewer-side}
 use Rattle.paper_laws.proofs.Marks.{same-at, marked-agree, on-marked, next-small}
 use Rattle.paper_laws.proofs.Removed.{on-links, removed-lengths, removed-next, removed-other}
-use Rattle.paper_laws.proofs.Held.{Held, on-held, level-alone}
+use Rattle.paper_laws.proofs.Held.{Held, held-same, on-held, level-alone}
 use Rattle.paper_laws.proofs.Smoothed.{Smooth, smooth-all}
 use Rattle.paper_laws.proofs.Closed.{Close, close-all}
 use Rattle.paper_laws.proofs.Kept.{top, mask-some, dart-point, sheet-tops, sheet-anchored, sheet-loops}
@@ -47,7 +47,8 @@ number-less : (a b : Bool) → (a ≡ true → b ≡ true) → number a ≤ numb
 number-less true b f = rw (f refl) (omega arith)
 number-less false b f = omega arith
 
-pub big-more : (o q : ℕ → Bool) → ((d : ℕ) → o d ≡ true → q d ≡ true) → (p : ℕ) → big o p ≡ true → big q p ≡ true
+pub big-more : (o q : ℕ → Bool) → ((d : ℕ) → o d ≡ true → q d ≡ true) → (p : ℕ) → big o p ≡ true
+    → big q p ≡ true
 unfolding big mask
 big-more o q f p e =
     let c : (k : ℕ) → number (o (dart p k)) ≤ number (q (dart p k)) =
@@ -69,12 +70,8 @@ big-more o q f p e =
 held-is : (w h : ℕ) (n : List ℕ) (l : Links) → Held w h (sheet w h n) (anchors w h n) l
     → (l .next ≡ drawn w h n .next3) × (l .other ≡ drawn w h n .other3)
 held-is w h n l c =
-    let g = drawn-held w h n in (
-      same-at (slots w h) (l .next) (drawn w h n .next3) (c .nexts) (g .nexts)
-          (λ d _. c .over .nexts d ∙ sym (g .over .nexts d)),
-      same-at (slots w h) (l .other) (drawn w h n .other3) (c .others) (g .others)
-          (λ d _. c .over .others d ∙ sym (g .over .others d)),
-    )
+    let e = held-same c (drawn-held w h n) in
+    (ap (λ j. j .next) e, ap (λ j. j .other) e)
 
 module _ (w h : ℕ) (n : List ℕ) where
   -- a region's parent is found from the lines and their sides alone
@@ -220,27 +217,27 @@ module _ (w h a b : ℕ) (n : List ℕ) (room : slots w h ≤ mark) (apart : a �
             (big-more o′ (border w h n) (fewer-lines w h n (lower a b) outside) p e);
       }
 
-  start : Smooth w h m′ (anchors w h n) r3 0
+  pub start : Smooth w h m′ (anchors w h n) r3 0
   unfolding sheet lines-map
   start = record { held = r3-held; high = anchors-above; covers = r3-covers; looped = looped-start }
 
   -- after any number of points, the tables hold the links over some points
   pub smooth-held : (i : ℕ) → (k : ℕ → Bool) × Covers m′ k × Held w h m′ k (smooths i 0 r3)
   smooth-held i =
-      let (k, f) = smooth-all (sheet-plane w h n′) room i 0 (anchors w h n) r3 start in
+      let (k, f, _) = smooth-all (sheet-plane w h n′) room i 0 (anchors w h n) r3 start in
       (k, f .covers, f .held)
 
   near : (d : ℕ) → o′ d ≡ true → point d < points w h
   near = dart-point w h o′ (border-lines w h n′)
 
   -- Step 4.
-  s3 : Links
+  abbrev pub s3 : Links
   s3 = smoothed w h r3
 
-  closing : (k : ℕ → Bool) × Close w h m′ (tops w h o′) k s3 0
-  unfolding s3 smoothed sheet lines-map
+  pub closing : (k : ℕ → Bool) × Close w h m′ (tops w h o′) k s3 0 × ((q : ℕ) → anchors w h n q ≡ false → k q ≡ false)
+  unfolding smoothed sheet lines-map
   closing =
-      let (k, f) = smooth-all (sheet-plane w h n′) room (points w h) 0 (anchors w h n) r3 start in
+      let (k, f, fewer) = smooth-all (sheet-plane w h n′) room (points w h) 0 (anchors w h n) r3 start in
       let all : (d : ℕ) → o′ d ≡ true → point d < 0 + points w h = λ d e. rw (zero-add (points w h)) (near d e) in (
         k,
         record {
@@ -248,13 +245,14 @@ module _ (w h a b : ℕ) (n : List ℕ) (room : slots w h ≤ mark) (apart : a �
           loops = record { high = f .high; covers = f .covers; loopy = looped-all (f .looped) all };
           settled = settled-start;
         },
+        fewer,
       )
 
   pub close-held : (i : ℕ) → (k : ℕ → Bool) × Covers m′ k × Held w h m′ k (closes o′ (tops w h o′) i 0 (smoothed w h r3))
-  unfolding s3 sheet lines-map
+  unfolding sheet lines-map
   close-held i =
-      let (k, c) = closing in
-      let (k₁, g) = close-all (sheet-plane w h n′) room (tops w h o′) (sheet-tops w h n′) i 0 k s3 c in
+      let (k, c, _) = closing in
+      let (k₁, g, _) = close-all (sheet-plane w h n′) room (tops w h o′) (sheet-tops w h n′) i 0 k s3 c in
       (k₁, g .loops .covers, g .held)
 
   c3 : Links
@@ -263,10 +261,10 @@ module _ (w h a b : ℕ) (n : List ℕ) (room : slots w h ≤ mark) (apart : a �
   c3-held : Held w h m′ (anchors w h n′) c3
   unfolding c3 closed sheet lines-map
   c3-held =
-      let (k, c) = closing in
+      let (k, c, _) = closing in
       let s = sheet-plane w h n′ in
       let y = sheet-tops w h n′ in
-      let (_, g) = close-all s room (tops w h o′) y (points w h) 0 k s3 c in
+      let (_, g, _) = close-all s room (tops w h o′) y (points w h) 0 k s3 c in
       let all : (d : ℕ) → o′ d ≡ true → point d < 0 + points w h = λ d e. rw (zero-add (points w h)) (near d e) in
       record {
         over = settled-over (s .chart) (s .few) y (g .loops) (sheet-anchored w h n′) (g .settled) all (g .held .over);
@@ -288,7 +286,7 @@ module _ (w h a b : ℕ) (n : List ℕ) (room : slots w h ≤ mark) (apart : a �
 
   -- All steps.
   pub joined-drawn : ((d : ℕ) → side w h n′ d < mark) → joined w h (drawn w h n) a b ≡ drawn w h n′
-  unfolding joined rest1 rest3 s3 c3 s1
+  unfolding joined rest1 rest3 c3 s1
   joined-drawn small =
       let (nexts, others) = held-is w h n′ c3 c3-held in
       tables-path (joined w h (drawn w h n) a b) (drawn w h n′)

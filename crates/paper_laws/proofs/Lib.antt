@@ -27,6 +27,7 @@ pub mod Round
 pub mod Share
 pub mod Sheet
 pub mod Smoothed
+pub mod Still
 pub mod Straight
 pub mod Theorem
 pub mod Untouched

@@ -11,11 +11,11 @@ use lib.Dec.{eqb}
 use lib.ListN.{length-set}
 use borrow.Author.Tests.{eq-eqb, ne-eqb}
 use Rattle.laws.proofs.Chart.{Map, Covers, level}
-use Rattle.laws.proofs.Over.{without, over-other}
+use Rattle.laws.proofs.Over.{next, without, without-off, over-other}
 use Rattle.laws.proofs.Meet.{Two}
 use Rattle.laws.proofs.Link.{other-on}
 use Rattle.laws.proofs.Splice.{splice-covers, splice-over}
-use Rattle.laws.proofs.Loop.{Above, Looped, above-without, above-passes, looped-more, looped-two, looped-without}
+use Rattle.laws.proofs.Loop.{Above, Looped, above-without, above-passes, loop-two, looped-more, looped-two, looped-without}
 use Rattle.point_darts.specs.Dart.{mark, slots, dart}
 use Rattle.point_darts.specs.Point.{degree}
 use Rattle.paper.specs.Level.{mask, big}
@@ -89,24 +89,40 @@ module _ {w h : ℕ} {x : Map} (s : Plane w h x) (room : slots w h ≤ mark) whe
         others = simp length-set (g .others);
       }
 
+  -- What a point is treated by, where the tables hold the links over the points k.
+  module _ (k : ℕ → Bool) (l : Links) (p : ℕ) (held : Held w h x k l) (covers : Covers x k) where
+    same : lines l p ≡ mask (level x k .on) p
+    same = ap (λ o. mask o p) (on-held s k room covers held)
+
+    pair : degree (lines l p) ≡ 2 → Two x p (u l p) (v l p)
+    pair e = rw same (two-level s k p (rw same at e))
+
+    kept : degree (lines l p) ≡ 2 → (k p ≡ true) × (big (x .on) p ≡ false)
+    kept e = two-level-kept s k p (rw same at e)
+
+    -- a loop's point stays
+    pub smooth-idle : ((d : ℕ) → x .on d ≡ true → x .pt d ≡ p → k p ≡ true → big (x .on) p ≡ false → next x k d ≡ d)
+        → smooth l p ≡ l
+    smooth-idle f = go (ℕ-discrete (degree (lines l p)) 2)
+      where
+        go : Dec (degree (lines l p) ≡ 2) → smooth l p ≡ l
+        go (yes e) =
+            let (kp, bp) = kept e in
+            let t = pair e in
+            smooth-loop l p
+            (over-other (held .over) (u l p) (t .one) (ap k (t .one-at) ∙ kp)
+            ∙ loop-two (s .chart) covers t (f (u l p) (t .one) (t .one-at) kp bp))
+        go (no e) = smooth-skip l p e
+
   pub smooth-step : (k : ℕ → Bool) (l : Links) (p : ℕ) → Smooth w h x k l p
-      → (k′ : ℕ → Bool) × Smooth w h x k′ (smooth l p) (suc p)
+      → (k′ : ℕ → Bool) × Smooth w h x k′ (smooth l p) (suc p) × ((q : ℕ) → k q ≡ false → k′ q ≡ false)
   smooth-step k l p f = go (ℕ-discrete (degree (lines l p)) 2) (ℕ-discrete (at (l .other) (u l p)) (v l p))
     where
-      same : lines l p ≡ mask (level x k .on) p
-      same = ap (λ o. mask o p) (on-held s k room (f .covers) (f .held))
-
-      pair : degree (lines l p) ≡ 2 → Two x p (u l p) (v l p)
-      pair e = rw same (two-level s k p (rw same at e))
-
-      kept : degree (lines l p) ≡ 2 → (k p ≡ true) × (big (x .on) p ≡ false)
-      kept e = two-level-kept s k p (rw same at e)
-
       go : Dec (degree (lines l p) ≡ 2) → Dec (at (l .other) (u l p) ≡ v l p)
-          → (k′ : ℕ → Bool) × Smooth w h x k′ (smooth l p) (suc p)
+          → (k′ : ℕ → Bool) × Smooth w h x k′ (smooth l p) (suc p) × ((q : ℕ) → k q ≡ false → k′ q ≡ false)
       go (yes e) (no n) =
-          let (kp, bp) = kept e in
-          let t = pair e in
+          let (kp, bp) = kept k l p (f .held) (f .covers) e in
+          let t = pair k l p (f .held) (f .covers) e in
           let ps = above-passes (s .chart) (s .few) (f .high) in (
             without k p,
             rw (smooth-out l p e n)
@@ -116,10 +132,11 @@ module _ {w h : ℕ} {x : Map} (s : Plane w h x) (room : slots w h ≤ mark) whe
                   covers = splice-covers (s .chart) (f .covers) ps (f .held .over) kp t n;
                   looped = looped-without (s .chart) (f .covers) (f .looped);
                 },
+            without-off k p,
           )
       go (yes e) (yes q) =
-          let (kp, bp) = kept e in
-          let t = pair e in
+          let (kp, bp) = kept k l p (f .held) (f .covers) e in
+          let t = pair k l p (f .held) (f .covers) e in
           let ps = above-passes (s .chart) (s .few) (f .high) in (
             k,
             rw (smooth-loop l p q)
@@ -130,6 +147,7 @@ module _ {w h : ℕ} {x : Map} (s : Plane w h x) (room : slots w h ≤ mark) whe
                   looped = looped-two (s .chart) (f .covers) ps (f .looped) kp t
                       (sym (over-other (f .held .over) (u l p) (t .one) (ap k (t .one-at) ∙ kp)) ∙ q);
                 },
+            (λ q e. e),
           )
       go (no e) q = (
         k,
@@ -138,15 +156,24 @@ module _ {w h : ℕ} {x : Map} (s : Plane w h x) (room : slots w h ≤ mark) whe
               held = f .held;
               high = f .high;
               covers = f .covers;
-              looped = looped-more (f .looped) (λ d o r kp bp. absurd (e (rw same (small-two s k p d o r kp bp))));
+              looped = looped-more (f .looped)
+                  (λ d o r kp bp. absurd (e (rw (same k l p (f .held) (f .covers)) (small-two s k p d o r kp bp))));
             },
+        (λ q e. e),
       )
 
+  -- some points are kept no more
   pub smooth-all : (n p : ℕ) (k : ℕ → Bool) (l : Links) → Smooth w h x k l p
-      → (k′ : ℕ → Bool) × Smooth w h x k′ (smooths n p l) (p + n)
+      → (k′ : ℕ → Bool) × Smooth w h x k′ (smooths n p l) (p + n) × ((q : ℕ) → k q ≡ false → k′ q ≡ false)
   unfolding smooths
-  smooth-all zero p k l f = (k, rw (add-zero p) f)
+  smooth-all zero p k l f = (k, rw (add-zero p) f, λ q e. e)
   smooth-all (suc n) p k l f =
-      let (k₁, g) = smooth-step k l p f in
-      let (k₂, r) = smooth-all n (suc p) k₁ (smooth l p) g in
-      (k₂, rw (add-suc p n, ← (suc-add p n)) r)
+      let (k₁, g, fewer₁) = smooth-step k l p f in
+      let (k₂, r, fewer₂) = smooth-all n (suc p) k₁ (smooth l p) g in
+      (k₂, rw (add-suc p n, ← (suc-add p n)) r, λ q e. fewer₂ q (fewer₁ q e))
+
+  -- a point that was treated stays
+  pub smooth-again : (k : ℕ → Bool) (l : Links) (i p : ℕ) → Smooth w h x k l i → p < i → smooth l p ≡ l
+  smooth-again k l i p f b =
+      smooth-idle k l p (f .held) (f .covers)
+      (λ d o q kp bp. f .looped .loop d o (ap k q ∙ kp) (ap (big (x .on)) q ∙ bp) (rw q b))

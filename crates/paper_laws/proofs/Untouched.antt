@@ -48,7 +48,7 @@ module _ (w h : ℕ) {o q : ℕ → Bool} (more : (d : ℕ) → o d ≡ true →
   top-more : (p : ℕ) → p < points w h → top w h q p ≡ top w h q (top w h o p)
   top-more p b = piece-top w h q (linked-map (λ p r l. step (line-more p r l)) (top-piece w h o i p b))
 
-  top-own : (p : ℕ) → p < points w h → top w h q p ≡ p → top w h o p ≡ p
+  pub top-own : (p : ℕ) → p < points w h → top w h q p ≡ p → top w h o p ≡ p
   top-own p b e =
       let l : top w h q (top w h o p) ≤ top w h o p = tops-le w h q (top w h o p) in
       omega (arith, tops-le w h o p, top-more p b)
@@ -82,7 +82,7 @@ module _ (w h a b : ℕ) (n : List ℕ) (room : slots w h ≤ mark) (apart : a �
   none : f 0 ≡ 0
   none = outside w h a b n room apart za zb
 
-  more : (d : ℕ) → o′ d ≡ true → o d ≡ true
+  pub more : (d : ℕ) → o′ d ≡ true → o d ≡ true
   more = fewer-lines w h n f none
 
   -- a point that is not big stays so
@@ -102,7 +102,7 @@ module _ (w h a b : ℕ) (n : List ℕ) (room : slots w h ≤ mark) (apart : a �
       (x .free d g (more d e) (more g y) kd s (top-more w h more i (point g) (in-sheet g y) ∙ ap (top w h o) z ∙ self))
 
   -- Points none of whose lines is removed.
-  abbrev Free : ℕ → Type 0
+  abbrev pub Free : ℕ → Type 0
   Free p = (g : ℕ) → o g ≡ true → point g ≡ p → taken m f g ≡ false
 
   free-border : {p : ℕ} → Free p → (g : ℕ) → point g ≡ p → o′ g ≡ o g
@@ -116,11 +116,11 @@ module _ (w h a b : ℕ) (n : List ℕ) (room : slots w h ≤ mark) (apart : a �
   free-mask : (p : ℕ) → Free p → mask o′ p ≡ mask o p
   free-mask p x = mask-agree o′ o p (λ j l. free-border x (dart p j) (point-dart p j l))
 
-  free-big : (p : ℕ) → Free p → big o′ p ≡ big o p
+  pub free-big : (p : ℕ) → Free p → big o′ p ≡ big o p
   unfolding big
   free-big p x = ap (λ s. ltb 2 (degree s)) (free-mask p x)
 
-  free-next : (d : ℕ) → Free (point (reversal w d)) → next w o′ d ≡ next w o d
+  pub free-next : (d : ℕ) → Free (point (reversal w d)) → next w o′ d ≡ next w o d
   unfolding next
   free-next d x = ap (λ s. dart (far w d) (turn s (direction d))) (free-mask (far w d) (rw point-reversal at x))
 
@@ -140,7 +140,7 @@ module _ (w h a b : ℕ) (n : List ℕ) (room : slots w h ≤ mark) (apart : a �
   covers′ = r3-covers w h a b n room apart za zb
 
   -- it is the same among fewer lines
-  last-fewer : (d : ℕ) → o d ≡ true → taken m f d ≡ false → Chart.last m′ k d ≡ Chart.last m k d
+  pub last-fewer : (d : ℕ) → o d ≡ true → taken m f d ≡ false → Chart.last m′ k d ≡ Chart.last m k d
   unfolding less sheet lines-map
   last-fewer d e t =
       let c = sheet-chart w h n in
@@ -207,7 +207,7 @@ module _ (w h a b : ℕ) (n : List ℕ) (room : slots w h ≤ mark) (apart : a �
   on-level d = ap (λ s. s d) (on-held (sheet-plane w h n) k room (sheet-loops w h n .covers) (drawn-held w h n))
 
   -- where no removed curve ends at a kept point, no line there is removed
-  away-free : (p : ℕ) → k p ≡ true → Away t a b p → Free p
+  pub away-free : (p : ℕ) → k p ≡ true → Away t a b p → Free p
   unfolding Chart.level sheet lines-map
   away-free p kp z g e q = go (taken m f g) refl
     where

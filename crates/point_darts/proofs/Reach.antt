@@ -13,10 +13,14 @@ use Rattle.point_darts.proofs.Darts.{point-dart, direction-dart, dart-o
 use Rattle.point_darts.proofs.Darts.{line-reversal, line-below}
 
 module _ (w h : ℕ) where
+  -- a slot is a dart's that leaves a point of the sheet
+  pub slot-point : (d : ℕ) → d < slots w h → point d < points w h
+  unfolding point slots
+  slot-point d b = omega arith
+
   -- a dart on the sheet starts and ends at points of the sheet
   pub line-point : (d : ℕ) → line w h d ≡ true → point d < points w h
-  unfolding point slots
-  line-point d e = omega (arith, line-below w h d e)
+  line-point d e = slot-point d (line-below w h d e)
 
   pub line-far : (d : ℕ) → line w h d ≡ true → far w d < points w h
   line-far d e = rw (point-reversal w d) at (line-point (reversal w d) (line-reversal w h d e))

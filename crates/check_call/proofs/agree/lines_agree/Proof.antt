@@ -29,29 +29,29 @@ cast-cells c = omega (arith, cells-fit _ _ (c .before .before .before .before .b
 slice-relend-prefix-recover : tie.Need-slice-relend-prefix-recover
 slice-relend-prefix-recover c =
     let z = c .before .before .before .before .before .before in
-    front-in _ _ (z .args .c .now) (z .pre .3) (cells-part _ _)
+    front-in _ _ (z .args .c .now) (z .pre .4) (cells-part _ _)
 
 slice-aggregate-recover : tie.Need-slice-aggregate-recover
 slice-aggregate-recover c =
     let z = c .before .before .before .before .before .before .before in
-    sym (front-long _ _ (z .args .c .now) (z .pre .3) (cells-part _ _))
+    sym (front-long _ _ (z .args .c .now) (z .pre .4) (cells-part _ _))
 
 recover-requires : tie.Need-recover-requires
 recover-requires c κs =
     let z = c .before .before .before .before .before .before .before in
-    (z .pre .0, front-long _ _ (z .args .c .now) (z .pre .3) (cells-part _ _))
+    (z .pre .0, z .pre .1, front-long _ _ (z .args .c .now) (z .pre .4) (cells-part _ _))
 
 slice-reshare-prefix-name-cells : tie.Need-slice-reshare-prefix-name-cells
 slice-reshare-prefix-name-cells c =
     let e = c .before .before in
     let z = start e in
-    back-in _ _ (z .args .c .now) (z .pre .3) (cells-part _ _) (e .recover .last .1 .1 .1 .0) (e .recover .kept .1 .1 .1 .0)
+    back-in _ _ (z .args .c .now) (z .pre .4) (cells-part _ _) (e .recover .last .1 .1 .1 .0) (e .recover .kept .1 .1 .1 .0)
 
 slice-aggregate-name-cells : tie.Need-slice-aggregate-name-cells
 slice-aggregate-name-cells c =
     let e = c .before .before .before in
     let z = start e in
-    sym (back-long _ _ (z .args .c .now) (z .pre .3) (cells-part _ _) (e .recover .last .1 .1 .1 .0)
+    sym (back-long _ _ (z .args .c .now) (z .pre .4) (cells-part _ _) (e .recover .last .1 .1 .1 .0)
     (e .recover .kept .1 .1 .1 .0))
 
 name-cells-requires : tie.Need-name-cells-requires
@@ -59,10 +59,10 @@ name-cells-requires c κs =
     let e = c .before .before .before .before .before in
     let z = start e in (
       z .pre .0,
-      back-long _ _ (z .args .c .now) (z .pre .3) (cells-part _ _) (e .recover .last .1 .1 .1 .0)
+      back-long _ _ (z .args .c .now) (z .pre .4) (cells-part _ _) (e .recover .last .1 .1 .1 .0)
           (e .recover .kept .1 .1 .1 .0),
+      z .pre .3,
       z .pre .2,
-      z .pre .1,
     )
 
 draw-lines-requires : tie.Need-draw-lines-requires
@@ -71,11 +71,11 @@ draw-lines-requires c κs =
     let p = recovered e in
     let z = start p in (
       z .pre .0,
-      (e .name-cells .kept .1 .1 .1 .1 .0) ∙ z .pre .1,
-      (e .name-cells .kept .1 .1 .1 .0) ∙ z .pre .2,
-      front-kept _ _ (z .args .c .now) (z .pre .3) (cells-part _ _) (p .recover .last .1 .1 .1 .0)
+      (e .name-cells .kept .1 .1 .1 .1 .0) ∙ z .pre .2,
+      (e .name-cells .kept .1 .1 .1 .0) ∙ z .pre .3,
+      front-kept _ _ (z .args .c .now) (z .pre .4) (cells-part _ _) (p .recover .last .1 .1 .1 .0)
           (p .recover .kept .1 .1 .1 .0),
-      z .pre .4,
+      z .pre .5,
     )
 
 both-same-requires : tie.Need-both-same-requires
@@ -110,7 +110,7 @@ returns c =
     let p = named e in
     let q = recovered p in
     let z = start q in
-    lines-is-drawing _ _ _ _ _ _ _ _ _ _ _ (front-back _ _ (z .args .c .now) (z .pre .3) (cells-part _ _)
+    lines-is-drawing _ _ _ _ _ _ _ _ _ _ _ (front-back _ _ (z .args .c .now) (z .pre .4) (cells-part _ _)
     (q .recover .last .1 .1 .1 .0) (q .recover .kept .1 .1 .1 .0)) (q .recover .ensures) (p .name-cells .ensures)
     (e .draw-lines .ensures) (c .both-same .ensures)
 

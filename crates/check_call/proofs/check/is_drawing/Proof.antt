@@ -17,8 +17,9 @@ curved c = c .before .before .before .before .before .before .before .before
 lines-agree-requires : tie.Need-lines-agree-requires
 lines-agree-requires c κs =
     let q = c .before .before .before .before .before .before .before .before .before .before .before .before .before .pre in
-    let l = stated-slots _ _ _ _ (q .1) .1 .1 .1 .1 in
-    (q .0, l .0, l .1 .0, l .1 .1 .0, l .1 .1 .1 .0)
+    let s = stated-slots _ _ _ _ (q .1) in
+    let l = s .1 .1 .1 .1 in
+    (q .0, s .1 .0, l .0, l .1 .0, l .1 .1 .0, l .1 .1 .1 .0)
 
 same-length : tie.Need-same-length
 same-length c = c .before .before .before .before .before .before .before .before .before .lines-agree .kept .1 .1 .1 .1 .0

@@ -2,11 +2,11 @@ use mathlib.Core.Path.{sym, _∙_}
 use Prim.Native.Nat.{_-_}
 use native.Mathlib.Nat.{mod-le}
 use native.Mathlib.Omega.{arith}
-use borrow.Author.Needs.{needs}
 use Rattle.point_darts.specs.Dart.{mark, dart}
 use Rattle.sheet_size.proofs.Limit.{within-limits}
 use Rattle.point_darts.proofs.Fit.{cells-fit}
-use Rattle.check_call.proofs.Recovering.{Recovering, recovering-none, recovering-all, recovering-fit, recovering-on, recovering-down}
+use Rattle.check_call.proofs.Recovering.{Recovering, recovering-none, recovering-all, recovering-fit, recovering-in}
+use Rattle.check_call.proofs.Recovering.{recovering-on, recovering-down}
 use Rattle.check_call.proofs.labels.recover.Statement.{statement}
 use Rattle.check_call.proofs.labels.recover.Tie as tie
 
@@ -25,7 +25,7 @@ add-point c = omega (arith, within-limits _ _ (c .before .before .pre .0))
 
 loop-holds : tie.Need-loop-holds Inv-loop μ-loop
 unfolding mark
-loop-holds c = recovering-none _ _ _ _ (c .before .before .pre .1)
+loop-holds c = recovering-none _ _ _ _ (c .before .before .pre .2)
 
 leaving-requires : tie.Need-leaving-requires Inv-loop μ-loop
 unfolding mark dart
@@ -34,7 +34,11 @@ leaving-requires c κs =
     omega (arith, recovering-fit _ _ _ _ _ _ _ _ (l .before .loop .inv) (l .before .before .before .before .pre .0) (l .loop-test .taken))
 
 label-at-requires : tie.Need-label-at-requires Inv-loop μ-loop
-label-at-requires c κs = search needs
+label-at-requires c κs =
+    let l = c .before in
+    let s = l .before .before .before .before in
+    let z = within-limits _ _ (s .pre .0) .wide in
+    omega (arith, c .leaving .ensures, s .pre .1, recovering-in _ _ _ _ _ _ _ _ (l .before .loop .inv) z (l .loop-test .taken))
 
 cast-labels : tie.Need-cast-labels Inv-loop μ-loop
 cast-labels c = omega (arith, cells-fit _ _ (c .before .before .before .before .before .before .pre .0))
@@ -87,7 +91,7 @@ loop-again-2 c =
     (l .loop-test .taken) (within-limits _ _ (l .before .before .before .before .pre .0) .wide) (c .if1 .left)
 
 same-length : tie.Need-same-length Inv-loop μ-loop
-same-length c = c .before .loop .inv .long ∙ sym (c .before .before .before .before .pre .1)
+same-length c = c .before .loop .inv .long ∙ sym (c .before .before .before .before .pre .2)
 
 returns : tie.Need-returns Inv-loop μ-loop
 returns c = recovering-all _ _ _ _ _ _ _ _ (c .before .loop .inv) (c .loop-test .left)

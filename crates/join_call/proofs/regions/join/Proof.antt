@@ -1,5 +1,6 @@
 use mathlib.Core.Path.{refl, sym, _∙_}
-use Rattle.check_answer.proofs.Given.{accepted-within}
+use Rattle.check_answer.proofs.Given.{accepted-within, accepted-stated}
+use Rattle.table_lengths.proofs.Tested.{stated-slots}
 use Rattle.join_rule.proofs.Readiness.{ready-pair}
 use Rattle.join_call.proofs.Answering.{asked-stops, asked-ready, asked-joined}
 use Rattle.join_call.proofs.regions.join.Statement.{statement}
@@ -24,7 +25,8 @@ check-requires c κs = tt
 asked-requires : tie.Need-asked-requires
 asked-requires c κs =
     let k = c .before .before .before .before .before .before .before .before .before .before in
-    accepted-within _ _ _ _ _ _ (k .check .ensures)
+    let e = k .check .ensures in
+    λ z. (accepted-within _ _ _ _ _ _ e z, stated-slots _ _ _ _ (accepted-stated _ _ _ _ _ _ e z) .1 .0)
 
 number-requires : tie.Need-number-requires
 number-requires c κs = tt

@@ -5,11 +5,13 @@ use native.Mathlib.Omega.{arith}
 use lib.ListN.{length, drop}
 use lib.Seq.{length-take-le, length-front}
 use Rattle.point_darts.specs.Dart.{slots}
+use Rattle.paper.specs.Joining.{rest1, rest3}
 use Rattle.paper_laws.proofs.Marks.{within-fits}
 use Rattle.table_lengths.proofs.Tested.{stated-parent, stated-slots}
 use Rattle.join_darts.specs.Listed.{bounds, Chained}
 use Rattle.join_darts.proofs.Listing.{bounded-all, bounded-on}
 use Rattle.join_rule.proofs.Applying.{all-steps, pair-cleared}
+use Rattle.join_rule.proofs.Visiting.{list-visits}
 use Rattle.join_rule.proofs.apply.apply.Statement.{statement}
 use Rattle.join_rule.proofs.apply.apply.Tie as tie
 
@@ -27,7 +29,7 @@ abbrev narrowed : tie.After-remove-shared → tie.After-narrow
 narrowed c = c .before .before .before .before .before .before .before
 
 abbrev sized : tie.After-settle → tie.After-points
-sized c = c .before .before .before .before .before .before .before
+sized c = c .before .before .before .before .before .before .before .before
 
 abbrev curved : tie.After-points → tie.After-remove-shared
 curved c = c .before .before .before .before .before
@@ -44,7 +46,7 @@ cleared c = c .before .before
 abbrev end : tie.After-slice-known20 → tie.After-settle
 end c = settled (backless (cleared c))
 
--- The list is as long as the work table that it stands in, and has room for the tops.
+-- The list is as long as the work table that it stands in.
 list-long : (c : tie.After-list-darts)
     → length (c .list-darts .last .1 .1 .1 .0) ≡ slots (start c .args .width) (start c .args .height)
 list-long c =
@@ -66,9 +68,14 @@ narrow-long : (c : tie.After-narrow)
     ≡ slots (start (listed (plain c)) .args .width) (start (listed (plain c)) .args .height)
 narrow-long c = c .narrow .kept .1 .1 .0 ∙ list-long (listed (plain c))
 
-work-room : (c : tie.After-points) → c .points .result ≤ length (narrowed (curved c) .narrow .last .1 .1 .0)
+-- The table of reversals has room for the tops.
+work-room : (c : tie.After-points)
+    → c .points .result ≤ length (plain (narrowed (curved c)) .remove-plain-shared .last .1 .1 .1 .1 .1 .1 .1 .1 .0)
 unfolding slots
-work-room c = omega (arith, narrow-long (narrowed (curved c)), c .points .ensures)
+work-room c =
+    let p = plain (narrowed (curved c)) in
+    let z = stated-slots _ _ _ _ (start (listed p) .pre .sizes) in
+    omega (arith, p .remove-plain-shared .kept .1 .1 .1 .1 .1 .1 .1 .1 .0, z .1 .1 .1 .1 .0, c .points .ensures)
 
 list-darts-requires : tie.Need-list-darts-requires
 list-darts-requires c κs =
@@ -128,17 +135,20 @@ cast-n : tie.Need-cast-n
 cast-n c = omega arith
 
 slice-relend-prefix-settle : tie.Need-slice-relend-prefix-settle
-slice-relend-prefix-settle c = work-room (c .before .before .before .before .before)
+slice-relend-prefix-settle c = work-room (c .before .before .before .before .before .before)
 
 slice-aggregate-settle : tie.Need-slice-aggregate-settle
-slice-aggregate-settle c = sym (length-take-le _ _ (work-room (c .before .before .before .before .before .before)))
+slice-aggregate-settle c = sym (length-take-le _ _ (work-room (c .before .before .before .before .before .before .before)))
 
 settle-requires : tie.Need-settle-requires
+unfolding rest1 rest3
 settle-requires c κs =
-    let n = c .before .before .before .before .before .before in
+    let n = c .before .before .before .before .before .before .before in
     let e = curved n in
-    let p = plain (narrowed e) in
-    let q = start (listed p) .pre in
+    let m = narrowed e in
+    let p = plain m in
+    let l = listed p in
+    let q = start l .pre in
     let z = stated-slots _ _ _ _ (q .sizes) in (
       q .size,
       p .remove-plain-shared .kept .1 .1 .1 .1 .1 .1 .1 .0 ∙ z .0,
@@ -146,6 +156,9 @@ settle-requires c κs =
       e .remove-shared .kept .1 .1 .1 .1 .1 .1 .1 .0 ∙ z .1 .1 .0,
       stated-parent _ _ _ _ (q .sizes),
       length-take-le _ _ (work-room n) ∙ n .points .ensures,
+      narrow-long m,
+      list-visits _ _ _ _ _ _ _ (q .still) (rw (list-long l) at (m .narrow .ensures (lined-bounds l))) _ _
+          (p .remove-plain-shared .ensures) (e .remove-shared .ensures),
     )
 
 clear-requires : tie.Need-clear-requires
@@ -159,35 +172,40 @@ same-length : tie.Need-same-length
 same-length c = plain (narrowed (curved (sized (end c)))) .remove-plain-shared .kept .1 .1 .1 .1 .1 .1 .1 .0
 
 same-length-2 : tie.Need-same-length-2
-same-length-2 c = end c .settle .kept .1 .1 .1 .1 .1 .0
+same-length-2 c = end c .settle .kept .1 .1 .1 .1 .1 .1 .1 .0
 
 same-length-3 : tie.Need-same-length-3
-same-length-3 c = end c .settle .kept .1 .1 .1 .1 .1 .1 .0 ∙ curved (sized (end c)) .remove-shared .kept .1 .1 .1 .1 .1 .1 .1 .0
+same-length-3 c = end c .settle .kept .1 .1 .1 .1 .1 .1 .1 .1 .0 ∙ curved (sized (end c)) .remove-shared .kept .1 .1 .1 .1 .1 .1 .1 .0
 
 same-length-4 : tie.Need-same-length-4
-same-length-4 c = end c .settle .kept .1 .1 .1 .1 .1 .1 .1 .0 ∙ curved (sized (end c)) .remove-shared .kept .1 .1 .1 .1 .1 .1 .1 .1 .0
+same-length-4 c =
+    end c .settle .kept .1 .1 .1 .1 .1 .1 .1 .1 .1 .0 ∙ curved (sized (end c)) .remove-shared .kept .1 .1 .1 .1 .1 .1 .1 .1 .0
 
 same-length-5 : tie.Need-same-length-5
-same-length-5 c = end c .settle .kept .1 .1 .1 .1 .1 .1 .1 .1 .0
+same-length-5 c = end c .settle .kept .1 .1 .1 .1 .1 .1 .1 .1 .1 .1 .0
+
+-- also that of the reversals, whose front is lent for the tops
+back-kept : (s : tie.After-settle)
+    → length (s .settle .last .1 .1 .1 .1 .1 .1 .1 .1 .1 .1 .1 .0
+    ++ drop (sized s .points .result) (plain (narrowed (curved (sized s))) .remove-plain-shared .last .1 .1 .1 .1 .1 .1 .1 .1 .0))
+    ≡ length (start (listed (plain (narrowed (curved (sized s))))) .args .back .now)
+back-kept s =
+    let n = sized s in
+    let p = plain (narrowed (curved n)) in
+    let top = s .settle .last .1 .1 .1 .1 .1 .1 .1 .1 .1 .1 .1 .0 in
+    length-front (p .remove-plain-shared .last .1 .1 .1 .1 .1 .1 .1 .1 .0) top (n .points .result)
+    (s .settle .kept .1 .1 .1 .1 .1 .1 .1 .1 .1 .1 .1 .0)
+    ∙ p .remove-plain-shared .kept .1 .1 .1 .1 .1 .1 .1 .1 .0
 
 same-length-6 : tie.Need-same-length-6
-same-length-6 c =
-    backless (cleared c) .clear .kept .0 ∙ plain (narrowed (curved (sized (end c)))) .remove-plain-shared .kept .1 .1 .1 .1 .1 .1 .1 .1 .0
+same-length-6 c = backless (cleared c) .clear .kept .0 ∙ back-kept (end c)
 
--- the list too, whose front is lent for the tops
-list-kept : (s : tie.After-settle)
-    → length (s .settle .last .1 .1 .1 .1 .1 .1 .1 .1 .1 .0
-    ++ drop (sized s .points .result) (narrowed (curved (sized s)) .narrow .last .1 .1 .0))
-    ≡ length (start (listed (plain (narrowed (curved (sized s))))) .args .list .now)
-list-kept s =
-    let n = sized s in
-    let m = narrowed (curved n) in
-    let top = s .settle .last .1 .1 .1 .1 .1 .1 .1 .1 .1 .0 in
-    length-front (m .narrow .last .1 .1 .0) top (n .points .result) (s .settle .kept .1 .1 .1 .1 .1 .1 .1 .1 .1 .0)
-    ∙ m .narrow .kept .1 .1 .0 ∙ listed (plain m) .list-darts .kept .1 .1 .1 .0
+list-kept : (c : tie.After-narrow)
+    → length (c .narrow .last .1 .1 .0) ≡ length (start (listed (plain c)) .args .list .now)
+list-kept c = c .narrow .kept .1 .1 .0 ∙ listed (plain c) .list-darts .kept .1 .1 .1 .0
 
 same-length-7 : tie.Need-same-length-7
-same-length-7 c = cleared c .clear2 .kept .0 ∙ list-kept (end c)
+same-length-7 c = cleared c .clear2 .kept .0 ∙ list-kept (narrowed (curved (sized (end c))))
 
 returns : tie.Need-returns
 returns c =
@@ -200,7 +218,7 @@ returns c =
           (p .remove-plain-shared .ensures) (e .remove-shared .ensures) (s .settle .ensures .0) (s .settle .ensures .1)
           (s .settle .ensures .2),
       pair-cleared _ _ _ _ _ _ (backless (cleared c) .clear .ensures) (cleared c .clear2 .ensures)
-          (p .remove-plain-shared .kept .1 .1 .1 .1 .1 .1 .1 .1 .0) (list-kept s),
+          (back-kept s) (list-kept (narrowed e)),
     )
 
 pub apply-spec : {M : Type 1} → statement M

@@ -6,7 +6,7 @@ use Rattle.join_rule.proofs.apply.settle.Tie as tie
 
 -- From each call back to the call before it, and to the start.
 abbrev start : tie.After-settle-curves → tie.Start
-start c = c .before .before .before .before .before .before .before .before .before .before .before
+start c = c .before .before .before .before .before .before .before .before .before .before .before .before
 
 abbrev curved : tie.After-lower-sides → tie.After-settle-curves
 curved c = c .before .before .before .before .before .before .before .before
@@ -27,7 +27,7 @@ find-parents-requires c κs =
     let q = start k .pre in
     let s = k .settle-curves in (
       q .0,
-      s .kept .1 .1 .1 .1 .1 .1 .0 ∙ q .5,
+      s .kept .1 .1 .1 .1 .1 .1 .1 .1 .0 ∙ q .5,
       tops-rising _ _ _ _ (s .ensures .1),
       q .4,
       l .lower-sides .kept .1 .1 .1 .0 ∙ q .2,
@@ -37,16 +37,16 @@ same-length : tie.Need-same-length
 same-length c = lowered (c .before .before) .lower-sides .kept .1 .1 .1 .0
 
 same-length-2 : tie.Need-same-length-2
-same-length-2 c = curved (lowered (c .before .before)) .settle-curves .kept .1 .1 .1 .1 .0
+same-length-2 c = curved (lowered (c .before .before)) .settle-curves .kept .1 .1 .1 .1 .1 .1 .0
 
 same-length-3 : tie.Need-same-length-3
-same-length-3 c = curved (lowered (c .before .before)) .settle-curves .kept .1 .1 .1 .1 .1 .0
+same-length-3 c = curved (lowered (c .before .before)) .settle-curves .kept .1 .1 .1 .1 .1 .1 .1 .0
 
 same-length-4 : tie.Need-same-length-4
 same-length-4 c = c .before .before .find-parents .kept .1 .1 .1 .1 .0
 
 same-length-5 : tie.Need-same-length-5
-same-length-5 c = curved (lowered (c .before .before)) .settle-curves .kept .1 .1 .1 .1 .1 .1 .0
+same-length-5 c = curved (lowered (c .before .before)) .settle-curves .kept .1 .1 .1 .1 .1 .1 .1 .1 .0
 
 returns : tie.Need-returns
 returns c =

@@ -7,7 +7,7 @@ use Rattle.join_rule.proofs.apply.settle_curves.Tie as tie
 
 -- From each call back to the call before it, and to the start.
 abbrev start : tie.After-top-points → tie.Start
-start c = c .before .before .before .before .before .before .before
+start c = c .before .before .before .before .before .before .before .before
 
 abbrev topped : tie.After-point-table → tie.After-top-points
 topped c = c .before .before .before
@@ -28,7 +28,7 @@ smooth-requires : tie.Need-smooth-requires
 smooth-requires c κs =
     let t = c .before .before .before in
     let q = start (topped t) .pre in
-    (q .0, t .point-table .ensures, q .1, q .3)
+    (q .0, t .point-table .ensures, q .5, q .1, q .3, q .6 .smoothing)
 
 close-requires : tie.Need-close-requires
 close-requires c κs =
@@ -38,22 +38,24 @@ close-requires c κs =
     let q = start p .pre in (
       q .0,
       t .point-table .ensures,
+      q .5,
       q .1,
       q .2,
-      s .smooth .kept .1 .1 .1 .1 .0 ∙ q .3,
+      s .smooth .kept .1 .1 .1 .1 .1 .1 .0 ∙ q .3,
       p .top-points .kept .1 .1 .1 .0 ∙ q .4,
       tops-rising _ _ _ _ (p .top-points .ensures),
+      rw (p .top-points .ensures, s .smooth .ensures) (q .6 .closing),
     )
 
 same-length : tie.Need-same-length
 same-length c =
     let e = c .before .before .before .before in
-    e .close .kept .1 .1 .1 .1 .1 .1 .0 ∙ smoothed e .smooth .kept .1 .1 .1 .1 .0
+    e .close .kept .1 .1 .1 .1 .1 .1 .1 .1 .0 ∙ smoothed e .smooth .kept .1 .1 .1 .1 .1 .1 .0
 
 same-length-2 : tie.Need-same-length-2
 same-length-2 c =
     let e = c .before .before .before .before in
-    e .close .kept .1 .1 .1 .1 .1 .1 .1 .0 ∙ smoothed e .smooth .kept .1 .1 .1 .1 .1 .0
+    e .close .kept .1 .1 .1 .1 .1 .1 .1 .1 .1 .0 ∙ smoothed e .smooth .kept .1 .1 .1 .1 .1 .1 .1 .0
 
 same-length-3 : tie.Need-same-length-3
 same-length-3 c =

@@ -3,7 +3,7 @@ use denote.Ref.{now}
 use borrow.Author.Needs.{needs}
 use Rattle.table_entries.proofs.Front.{front-in, front-long, front-back, back-in, back-long}
 use Rattle.region_names.proofs.Room.{points-part}
-use Rattle.level_curves.specs.Keep.{keeps}
+use Rattle.level_kept.specs.Keep.{keeps}
 use Rattle.region_parents.proofs.Rise.{tops-rising}
 use Rattle.level_call.proofs.along.keep_anchors.Statement.{statement}
 use Rattle.level_call.proofs.along.keep_anchors.Tie as tie

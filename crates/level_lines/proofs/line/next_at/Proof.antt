@@ -1,8 +1,6 @@
 use native.Mathlib.Omega.{arith}
-use lib.Dec.{lit<}
 use Rattle.point_darts.specs.Dart.{mark, dart}
-use Rattle.level_lines.specs.Line.{onward}
-use Rattle.level_lines.proofs.Pointing.{beside-fit, onward-dart}
+use Rattle.level_lines.proofs.Pointing.{beside-fit, next-is}
 use borrow.Author.Needs.{needs}
 use Rattle.level_lines.proofs.line.next_at.Statement.{statement}
 use Rattle.level_lines.proofs.line.next_at.Tie as tie
@@ -39,14 +37,10 @@ returns c =
     let f = c .before .before .before in
     let g = f .before .before in
     let b = g .before .before .before .before in
-    let q = b .besides .ensures in
     let a = b .before .before .before .args in
-    let r = f .follow-four .ensures in
-    c .before .before .put-present .ensures (onward (a .width) _)
-    (onward-dart (a .width) (a .p) _ 0 _ _ _ (lit< tt) (q .0) (g .before .before .before .get .ensures) (r .0))
-    (onward-dart (a .width) (a .p) _ 1 _ _ _ (lit< tt) (q .1) (g .before .before .get2 .ensures) (r .1))
-    (onward-dart (a .width) (a .p) _ 2 _ _ _ (lit< tt) (q .2) (g .before .get3 .ensures) (r .2))
-    (onward-dart (a .width) (a .p) _ 3 _ _ _ (lit< tt) (q .3) (g .get4 .ensures) (r .3))
+    next-is (a .width) (a .p) _ _ (b .besides .ensures) (f .follow-four .ensures)
+    (c .before .before .put-present .ensures)
+    (g .before .before .before .get .ensures, g .before .before .get2 .ensures, g .before .get3 .ensures, g .get4 .ensures)
 
 pub next-at-spec : {M : Type 1} → statement M
 next-at-spec =
