@@ -4,7 +4,8 @@
  * is stood in for by the other, and roots are searched only where the two entries differ. Lines, sides and next are loops
  * over all points that the compiler turns into vector code. A dart of level 3 whose far point is kept is linked at once; a
  * longer run is walked once for its two ends. The check reads the names off the sides, draws and compares. A join checks,
- * gives both regions one name and draws. Sizes and lengths are the caller's business. */
+ * takes out the lines that the two regions share, looks after the points at their ends, and finds pieces and parents
+ * anew. Sizes and lengths are the caller's business. */
 
 #include "plain.h"
 
@@ -213,30 +214,119 @@ int plain_check(int width, int height, struct five five) {
            !memcmp(five.other3, other3, slots) && !memcmp(five.parent, parent, regions);
 }
 
-/* Whether a cell of a lies beside a cell of b. */
-static int beside(int width, int height, int a, int b) {
-    for (int y = 0, c = 0; y < height; y++)
-        for (int x = 0; x < width; x++, c++) {
-            int name = read_names[c];
-            if (name != a && name != b) continue;
-            int sought = a + b - name;
-            if (x > 0 && read_names[c - 1] == sought) return 1;
-            if (y > 0 && read_names[c - width] == sought) return 1;
+/* The darts of the two regions that are joined, in order, and whether the two share a dart's line. */
+static u16 listed[SLOTS];
+static unsigned char gone[MARK + 1];
+
+/* Most parts of the table have no dart of the two, so parts are asked first. */
+static int list_darts(int slots, const u16 *side, int a, int b) {
+    enum { PART = 32 };
+    int count = 0;
+    for (int low = 0; low < slots; low += PART) {
+        int high = low + PART < slots ? low + PART : slots, any = 0;
+        for (int d = low; d < high; d++) any |= (side[d] == a) | (side[d] == b);
+        if (!any) continue;
+        for (int d = low; d < high; d++) {
+            listed[count] = (u16)d;
+            count += (side[d] == a) | (side[d] == b);
         }
-    return 0;
+    }
+    return count;
+}
+
+/* The lines that a and b share, and how many darts these have. */
+static int find_gone(int row, int count, const u16 *side, int a, int b) {
+    int step[4] = {1, row, -1, -row}, found = 0;
+    for (int i = 0; i < count; i++) {
+        int d = listed[i], back = 4 * (d / 4 + step[d & 3]) + ((d & 3) ^ 2);
+        gone[d] = side[d] + side[back] == a + b;
+        found += gone[d];
+    }
+    return found;
+}
+
+/* Step 1: what leads to a dart that goes leads past it. The other of a dart that goes goes too, so both keep their links
+ * till all is led past them. */
+static void lead_past(int row, int count, struct five five) {
+    int step[4] = {1, row, -1, -row};
+    for (int i = 0; i < count; i++) {
+        int d = listed[i];
+        if (gone[d]) continue;
+        u16 after = five.next1[d];
+        while (gone[after]) after = five.next1[4 * (after / 4 + step[after & 3]) + ((after & 3) ^ 2)];
+        five.next1[d] = after;
+        after = five.next3[d];
+        while (gone[after]) after = five.next3[five.other3[after]];
+        five.next3[d] = after;
+    }
+}
+
+/* Step 1 and the sides of step 5: darts that go have no entries any more; the larger name becomes the smaller. What is
+ * left in the list are the darts that went. */
+static int take_out(int count, struct five five, int smaller) {
+    int went = 0;
+    for (int i = 0; i < count; i++) {
+        int d = listed[i], p = d / 4;
+        five.side1[d] = (u16)smaller;
+        if (!gone[d]) continue;
+        gone[d] = 0;
+        five.next1[d] = five.side1[d] = five.next3[d] = five.other3[d] = MARK;
+        if ((d & 3) == EAST) no_east[p] = MARK;
+        if ((d & 3) == SOUTH) no_south[p] = MARK;
+        listed[went++] = (u16)d;
+    }
+    return went;
+}
+
+/* Whether exactly two darts leave a point in a table; the first and the last of them. */
+static int two(const u16 *next, int p, int *first, int *last) {
+    int found = 0;
+    for (int d = 4 * p + 3; d >= 4 * p; d--)
+        if (next[d] != MARK) {
+            if (!found++) *last = d;
+            *first = d;
+        }
+    return found == 2;
+}
+
+/* Step 3 at a point. */
+static void smooth(struct five five, int p) {
+    int u, v;
+    if (!two(five.next3, p, &u, &v) || five.other3[u] == v) return;
+    int x = five.other3[u], y = five.other3[v];
+    five.next3[x] = five.next3[v];
+    five.next3[y] = five.next3[u];
+    five.other3[x] = (u16)y;
+    five.other3[y] = (u16)x;
+    five.next3[u] = five.next3[v] = five.other3[u] = five.other3[v] = MARK;
+}
+
+/* Step 4 at a point. */
+static void close_curve(struct five five, int p) {
+    int u, v, e, f;
+    if (!two(five.next3, p, &u, &v) || five.other3[u] != v || !two(five.next1, p, &e, &f)) return;
+    two(five.next1, piece[p], &e, &f);
+    five.next3[u] = five.next3[v] = five.other3[u] = five.other3[v] = MARK;
+    five.next3[e] = five.other3[f] = (u16)e;
+    five.next3[f] = five.other3[e] = (u16)f;
 }
 
 int plain_join(int width, int height, struct five five, int a, int b) {
     if (!plain_check(width, height, five)) return 5;
     if (a == 0 || b == 0) return 6;
     if (a == b) return 7;
-    int cells = width * height;
-    if (a > cells || b > cells || five.parent[a] == MARK || five.parent[b] == MARK) return 8;
-    if (!beside(width, height, a, b)) return 9;
+    int row = width + 1, points = row * (height + 1);
+    if (a > width * height || b > width * height || five.parent[a] == MARK || five.parent[b] == MARK) return 8;
+    int count = list_darts(4 * points, five.side1, a, b);
+    if (!find_gone(row, count, five.side1, a, b)) return 9;
     /* The check has left the names of all cells; the larger of the two gives way. */
-    int smaller = a < b ? a : b, larger = a + b - smaller, count = (width + 1) * (height + 2) + 1;
-    for (int k = 0; k < count; k++)
-        if (names[k] == larger) names[k] = (u16)smaller;
-    draw_named(width, height, five);
+    int smaller = a < b ? a : b, larger = a + b - smaller, framed = row * (height + 2) + 1;
+    lead_past(row, count, five);
+    int went = take_out(count, five, smaller);
+    for (int i = 0; i < went; i++) smooth(five, listed[i] / 4);
+    find_pieces(row, points);
+    for (int i = 0; i < went; i++) close_curve(five, listed[i] / 4);
+    for (int k = 0; k < framed; k++) names[k] = names[k] == larger ? (u16)smaller : names[k];
+    parents(width, height, five.parent);
     return 0;
 }
