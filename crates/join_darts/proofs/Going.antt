@@ -49,7 +49,7 @@ module _ (steps : ℕ → ℕ → Links → Links) (step : Links → ℕ → Lin
       pub nexts : length (k .next) ≡ length (l .next)
       pub others : length (k .other) ≡ length (l .other)
 
-    -- From the slot e on the list leads to d; the points before i are treated, and their darts are before e.
+    -- From the slot e on the list leads to d; the points before i are treated, and the darts of the others are from e on.
     module _ (e d i : ℕ) (k : Links) (r : First (g .test) (slots w h) e d) (b : e ≤ 4 * i) (j : i ≤ points w h)
         (treated : k ≡ steps i 0 l) where
       between : (n : ℕ) → n ≤ points w h → 4 * n ≤ d → i ≤ n → k ≡ steps n 0 l
