@@ -9,6 +9,8 @@
 //!   Five      the five tables of a drawing
 //!   .._call   what a public call answers, and what it leaves in each lent table
 
+use std::collections::HashSet;
+
 /// "None" in every table of links, sides or parents.
 pub const MARK: u16 = 65535;
 /// The greatest width and the greatest height.
@@ -312,16 +314,20 @@ fn tops(size: Size, side: &[u16]) -> Vec<Option<usize>> {
     tops
 }
 
+/// The outer piece of a region, by its top: the piece that holds the top side of its first cell.
+fn outer_piece(size: Size, tops: &[Option<usize>], name: usize) -> usize {
+    let first = name - 1;
+    let corner = size.point(first % size.width, first / size.width);
+    tops[corner].expect("the top side of a first cell is a line")
+}
+
 /// The parents of the regions in use, from the level 1 lines and their sides. The region north-west of the top of the
 /// outer piece is also the one north-east of it, which is on the left hand of the line that leaves the top eastwards.
 fn parents(size: Size, side: &[u16], in_use: impl Fn(usize) -> bool) -> Vec<u16> {
     let tops = tops(size, side);
     let mut parents = vec![MARK; size.names()];
     for name in (1..size.names()).filter(|&n| in_use(n)) {
-        let first = name - 1;
-        let corner = size.point(first % size.width, first / size.width);
-        let top = tops[corner].expect("the top side of a first cell is a line");
-        parents[name] = side[size.reversal(4 * top + EAST)];
+        parents[name] = side[size.reversal(4 * outer_piece(size, &tops, name) + EAST)];
     }
     parents
 }
@@ -337,9 +343,10 @@ pub fn depth(parents: &[u16], name: u16) -> u16 {
     depth
 }
 
-/// The number of regions whose parent it is.
-pub fn holes(parents: &[u16], name: u16) -> u16 {
-    parents.iter().filter(|&&parent| parent == name).count() as u16
+/// The number of different pieces among the outer pieces of the regions whose parent it is.
+fn holes(size: Size, tops: &[Option<usize>], parents: &[u16], name: u16) -> u16 {
+    let inside = (1..size.names()).filter(|&region| parents[region] == name);
+    inside.map(|region| outer_piece(size, tops, region)).collect::<HashSet<_>>().len() as u16
 }
 
 // ---------------------------------------------------------------------------------------------------------------------
@@ -631,25 +638,26 @@ fn count_call(
     name: u16,
     slot: &mut u16,
     works: &mut Works,
-    count: fn(&[u16], u16) -> u16,
+    count: impl Fn(Size) -> u16,
 ) -> u16 {
-    let (_, names) = match checked(width, height, five, |_| true, works) {
+    let (size, names) = match checked(width, height, five, |_| true, works) {
         Ok(checked) => checked,
         Err(number) => return number,
     };
     if name != 0 && !is_named(&names, name) {
         return 8;
     }
-    *slot = count(&five.parent, name);
+    *slot = count(size);
     0
 }
 
 pub fn depth_call(width: u16, height: u16, five: &Five, name: u16, slot: &mut u16, works: &mut Works) -> u16 {
-    count_call((width, height), five, name, slot, works, depth)
+    count_call((width, height), five, name, slot, works, |_| depth(&five.parent, name))
 }
 
 pub fn holes_call(width: u16, height: u16, five: &Five, name: u16, slot: &mut u16, works: &mut Works) -> u16 {
-    count_call((width, height), five, name, slot, works, holes)
+    let count = |size| holes(size, &tops(size, &five.side1), &five.parent, name);
+    count_call((width, height), five, name, slot, works, count)
 }
 
 /// Both counts of every name, the mark for names not in use.
@@ -662,14 +670,15 @@ pub fn counts_call(
     works: &mut Works,
 ) -> u16 {
     let fit = |size: Size| depths.len() == size.names() && all_holes.len() == size.names();
-    let names = match checked(width, height, five, fit, works) {
-        Ok((_, names)) => names,
+    let (size, names) = match checked(width, height, five, fit, works) {
+        Ok(checked) => checked,
         Err(number) => return number,
     };
+    let tops = tops(size, &five.side1);
     for name in 0..depths.len() {
         let used = name == 0 || is_named(&names, name as u16);
         depths[name] = if used { depth(&five.parent, name as u16) } else { MARK };
-        all_holes[name] = if used { holes(&five.parent, name as u16) } else { MARK };
+        all_holes[name] = if used { holes(size, &tops, &five.parent, name as u16) } else { MARK };
     }
     0
 }

@@ -2,12 +2,14 @@
 //!
 //! One case a line, fields parted by `;`, numbers by blanks. The files, and the fields of each:
 //!   levels.txt         W H; labels; level; next; other; side
-//!   drawings.txt       W H; labels; the five tables; name depth holes of each region, the outside first
+//!   drawings.txt       W H; labels; the five tables; name, depth, regions with this parent, of each region, the outside first
 //!   joins.txt          W H; labels; a b a b ..; the five tables after the last join
 //!   join_refusals.txt  W H; labels; a b; number, 0 for accepted
 //!   not_drawings.txt   W H; five tables; 5, or 0 where they are a drawing
 //!   decks.txt          bytes in hexadecimal, - for none; 0 W H, or number card; labels of an accepted deck
 //! and those of the requests, in the folder `requests`:
+//!   t02_counts.txt       W H; labels; a b a b .. joined first, - for none; name depth holes of each region, the outside first
+//!   t02_order.txt        W H; the five tables and two more; name; depth: number, value if 0; holes: likewise
 //!   t04_next.txt         present heading; direction, 4 for none
 //!   t07_point_table.txt  present taken; entry
 //!   t07_joins.txt        W H; labels; a b; present taken entry of each point; the tables after the join, five or more
@@ -16,7 +18,7 @@ use crate::naive::{self, Five, Level, Size, Works, MARK};
 use std::path::Path;
 
 fn numbers(field: &str) -> Vec<u16> {
-    field.split_whitespace().map(|word| word.parse().expect("a number")).collect()
+    field.split_whitespace().filter(|&word| word != "-").map(|word| word.parse().expect("a number")).collect()
 }
 
 fn bytes(field: &str) -> Vec<u8> {
@@ -48,21 +50,73 @@ fn level(fields: &[Vec<u16>]) -> bool {
     naive::level(size, &fields[1], fields[2][0]) == expected
 }
 
-fn drawing(fields: &[Vec<u16>]) -> bool {
-    let size = size(&fields[0]);
-    let expected = five(&fields[2..7]);
-    let drawn = naive::draw(size, &fields[1]);
-    let (width, height) = (fields[0][0], fields[0][1]);
+/// Two numbers of each name, from a list of names with theirs; the mark for a name that is not in the list.
+fn by_name(size: Size, list: &[u16]) -> Vec<(u16, u16)> {
+    let mut both = vec![(MARK, MARK); size.names()];
+    for region in list.chunks(3) {
+        both[region[0] as usize] = (region[1], region[2]);
+    }
+    both
+}
+
+/// Depth and holes of each name of a drawing.
+fn counted(size: Size, drawing: &Five) -> Option<Vec<(u16, u16)>> {
     let (mut depths, mut holes) = (vec![7; size.names()], vec![7; size.names()]);
     let mut works = works(size);
-    let mut counted = vec![(MARK, MARK); size.names()];
-    for region in fields[7].chunks(3) {
-        counted[region[0] as usize] = (region[1], region[2]);
+    let (width, height) = (size.width as u16, size.height as u16);
+    let number = naive::counts_call(width, height, drawing, &mut depths, &mut holes, &mut works);
+    (number == 0 && clear(&works)).then(|| depths.into_iter().zip(holes).collect())
+}
+
+/// The file counts the regions with one parent, as the paper did before request T-02.
+fn drawing(fields: &[Vec<u16>]) -> bool {
+    let size = size(&fields[0]);
+    let drawn = naive::draw(size, &fields[1]);
+    let Some(counts) = counted(size, &drawn) else { return false };
+    let inside = |name: usize| drawn.parent.iter().filter(|&&parent| parent as usize == name).count() as u16;
+    let regions = counts.iter().enumerate().map(|(name, &(depth, _))| match depth {
+        MARK => (MARK, MARK),
+        depth => (depth, inside(name)),
+    });
+    drawn == five(&fields[2..7]) && regions.eq(by_name(size, &fields[7]))
+}
+
+/// Depth and holes after some joins, of all names at once and of each.
+fn counts(fields: &[Vec<u16>]) -> bool {
+    let size = size(&fields[0]);
+    let mut drawing = naive::draw(size, &fields[1]);
+    let (width, height) = (fields[0][0], fields[0][1]);
+    for pair in fields[2].chunks(2) {
+        if naive::join_call(width, height, &mut drawing, pair[0], pair[1], &mut works(size)) != 0 {
+            return false;
+        }
     }
-    drawn == expected
-        && naive::counts_call(width, height, &drawn, &mut depths, &mut holes, &mut works) == 0
-        && clear(&works)
-        && depths.into_iter().zip(holes).collect::<Vec<_>>() == counted
+    let one = |call: CountCall, name| {
+        let mut value = 7;
+        (call(width, height, &drawing, name, &mut value, &mut works(size)) == 0).then_some(value)
+    };
+    let expected = by_name(size, &fields[3]);
+    let each = fields[3].chunks(3).all(|region| {
+        one(naive::depth_call, region[0]) == Some(region[1]) && one(naive::holes_call, region[0]) == Some(region[2])
+    });
+    counted(size, &drawing) == Some(expected) && each
+}
+
+type CountCall = fn(u16, u16, &Five, u16, &mut u16, &mut Works) -> u16;
+
+/// The number that each of the two counts answers, and its value; a refusal gives none and writes none. A 5 of the file may be
+/// about the two tables more, which request T-01 brings: then the first five are a drawing.
+fn counts_in_order(fields: &[Vec<u16>]) -> bool {
+    let drawing = five(&fields[1..6]);
+    let of_totals = naive::check_call(fields[0][0], fields[0][1], &drawing, &mut works(size(&fields[0]))) == 0;
+    let calls: [(CountCall, &[u16]); 2] = [(naive::depth_call, &fields[9]), (naive::holes_call, &fields[10])];
+    calls.into_iter().all(|(call, expected)| {
+        let mut value = 7;
+        let mut works = works(size(&fields[0]));
+        let number = call(fields[0][0], fields[0][1], &drawing, fields[8][0], &mut value, &mut works);
+        let answer = if number == 0 { vec![0, value] } else { vec![number] };
+        (answer == expected || of_totals && expected == [5]) && clear(&works) && (number == 0 || value == 7)
+    })
 }
 
 fn join(fields: &[Vec<u16>]) -> bool {
@@ -140,6 +194,8 @@ pub fn run(folder: &Path) -> bool {
         file(folder, "join_refusals.txt", fields(join_refusal)),
         file(folder, "not_drawings.txt", fields(not_drawing)),
         file(folder, "decks.txt", deck),
+        file(folder, "requests/t02_counts.txt", fields(counts)),
+        file(folder, "requests/t02_order.txt", fields(counts_in_order)),
         file(folder, "requests/t04_next.txt", fields(next_line)),
         file(folder, "requests/t07_point_table.txt", fields(point_table)),
         file(folder, "requests/t07_joins.txt", fields(join_by_points)),

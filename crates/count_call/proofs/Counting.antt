@@ -14,6 +14,7 @@ use Rattle.laws.proofs.First.{all-passed, failed-below}
 use Rattle.sheet_size.specs.Size.{within}
 use Rattle.paper.specs.Enclosure.{depth, holes}
 use Rattle.paper.specs.Drawing.{Tables, isDrawing}
+use Rattle.paper.specs.Joining.{on}
 use Rattle.paper.specs.Refusal.{sized, stated, five, sizeTests, givenTests}
 use Rattle.answer.specs.declared.Answer.{Answer}
 use Rattle.answer.specs.Answer.{numberOf, told}
@@ -24,6 +25,10 @@ use Rattle.region_depths.specs.Census.{counts}
 use Rattle.check_answer.specs.Check.{checked}
 use Rattle.check_answer.proofs.Given.{size-numbered, given-number, given-work, accepted-work}
 use Rattle.count_call.specs.Tally.{tallyRefusal, tallied}
+
+-- only the first of the work tables is written
+pub first-same : {a b : List ℕ} (ws : List (List ℕ)) → a ≡ b → a ∷ ws ≡ b ∷ ws
+first-same ws e = ap (λ a. a ∷ ws) e
 
 and-yes : (b : Bool) → (b && true) ≡ b
 and-yes true = refl
@@ -52,7 +57,7 @@ module _ (w h : ℕ) (t : Tables) (ds hs : List ℕ) (ws : List (List ℕ)) (f :
   kept = five t ++ ds ∷ hs ∷ []
 
   abbrev filled : List (List ℕ)
-  filled = five t ++ counts depth (t .parent) ∷ counts holes (t .parent) ∷ []
+  filled = five t ++ counts depth (t .parent) ∷ counts (holes w h (on (t .side1))) (t .parent) ∷ []
 
   abbrev long : Bool
   long = sized (w * h + 1) (ds ∷ hs ∷ [])
@@ -91,9 +96,9 @@ module _ (w h : ℕ) (t : Tables) (ds hs : List ℕ) (ws : List (List ℕ)) (f :
           (given-work w h t ws v vs c ∙ ap (λ k. work-left k ws) (sym same-tests))
 
       pub tally-done : numberOf v ≡ 0 → (ds′ hs′ : List ℕ) → ds′ ≡ counts depth (t .parent)
-          → hs′ ≡ counts holes (t .parent)
-          → told Answer.Done (five t ++ ds′ ∷ hs′ ∷ []) vs ≡ tallied w h t ds hs ws
+          → hs′ ≡ counts (holes w h (on (t .side1))) (t .parent) → (us : List (List ℕ)) → us ≡ vs
+          → told Answer.Done (five t ++ ds′ ∷ hs′ ∷ []) us ≡ tallied w h t ds hs ws
       unfolding tallied numberOf
-      tally-done d ds′ hs′ p q =
+      tally-done d ds′ hs′ p q us u =
           told-done Answer.Done (tallyRefusal w h t ds hs ws) (sym d ∙ same-number) refl kept filled ws
-          (five t ++ ds′ ∷ hs′ ∷ []) vs (rw (p, q)) (accepted-work w h t ws v vs c d)
+          (five t ++ ds′ ∷ hs′ ∷ []) us (rw (p, q)) (u ∙ accepted-work w h t ws v vs c d)

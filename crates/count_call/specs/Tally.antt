@@ -6,6 +6,7 @@ use Prim.Native.Nat.{ℕ, _+_, _*_}
 use Rattle.laws.specs.First.{firstFailed}
 use Rattle.paper.specs.Enclosure.{depth, holes}
 use Rattle.paper.specs.Drawing.{Tables, isDrawing}
+use Rattle.paper.specs.Joining.{on}
 use Rattle.paper.specs.Refusal.{Outcome, outcome, sized, stated, five, sizeTests}
 use Rattle.region_depths.specs.Census.{counts}
 
@@ -16,5 +17,5 @@ tallyRefusal w h t ds hs ws =
 unfoldable pub tallied : ℕ → ℕ → Tables → List ℕ → List ℕ → List (List ℕ) → Outcome
 tallied w h t ds hs ws =
     outcome (tallyRefusal w h t ds hs ws) [] (five t ++ ds ∷ hs ∷ [])
-    (five t ++ counts depth (t .parent) ∷ counts holes (t .parent) ∷ [])
+    (five t ++ counts depth (t .parent) ∷ counts (holes w h (on (t .side1))) (t .parent) ∷ [])
     ws

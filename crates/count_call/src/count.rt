@@ -1,6 +1,7 @@
 use answer::Answer;
 use check_call::check;
 use count_answer::Count;
+use count_holes::holes;
 use region_depths::census;
 ghost use mathlib.Core.Path.{_≡_};
 ghost use mathlib.Core.List.{[], _∷_, _++_};
@@ -53,8 +54,8 @@ pub fn depth(
     count_answer::depth_after(answer, parent, name)
 }
 
-// The hole count of a region, or of the outside for the name 0: refusals 1, 4, 5 and 8. The tables stay as they are; the
-// work tables are left at 1 and 4, else cleared.
+// The hole count of a region, or of the outside for the name 0: how many different pieces are the outer pieces of the regions
+// whose parent it is. Refusals 1, 4, 5 and 8. The tables stay as they are; the work tables are left at 1 and 4, else cleared.
 pub fn holes(
     width: u16,
     height: u16,
@@ -93,7 +94,7 @@ pub fn holes(
         work_c,
         work_d,
     );
-    count_answer::holes_after(answer, parent, name)
+    count_answer::holes_after(answer, width, height, side1, parent, name, work_a)
 }
 
 // Depth and hole count of every name at once, of the outside and of each name in use; the mark for any other name. The
@@ -148,6 +149,7 @@ pub fn counts(
     if answer.number() != 0 {
         return answer;
     }
-    census::count_all(parent, depths, tally);
+    census::all_depths(parent, depths);
+    holes::all_holes(width, height, side1, parent, tally, work_a);
     Answer::Done
 }

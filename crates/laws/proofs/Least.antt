@@ -78,7 +78,7 @@ pub data Linked (R : ℕ → ℕ → Type 0) : ℕ → ℕ → Type 0 where
   then : {i j k : ℕ} → Linked R i j → Linked R j k → Linked R i k
 
 -- what no step changes, no chain changes
-pub linked-same : {R : ℕ → ℕ → Type 0} (g : ℕ → ℕ) → ((i j : ℕ) → R i j → g i ≡ g j)
+pub linked-same : {R : ℕ → ℕ → Type 0} {A : Type 0} (g : ℕ → A) → ((i j : ℕ) → R i j → g i ≡ g j)
     → {i j : ℕ} → Linked R i j → g i ≡ g j
 linked-same g h stay = refl
 linked-same g h (step {i = i} {j = j} r) = h i j r

@@ -3,9 +3,11 @@ pub mod Anchor
 pub mod Cases
 pub mod Chart
 pub mod Column
+pub mod Contour
 pub mod Count
 pub mod Curve
 pub mod Equal
+pub mod Even
 pub mod Every
 pub mod Exchange
 pub mod First

@@ -8,6 +8,7 @@
 --                      of the line between them are both of the piece or both not
 --   inside e t x y  == west of the cell, in its row, is an odd number of lines of the piece between a cell of the
 --                      region and one that is not
+--   Touch x y u v   == the cell in column u and row v is one of the four round the place in column x and row y
 --   Joined m p q    == a chain of lines of the map m leads from p to q
 --   Found e x m     == from x to m some number passes the test e
 --   Flanked m P x   == before x a number has P, and after it one up to m + 1
@@ -80,6 +81,12 @@ unfoldable pub inside : (ℕ → ℕ → Bool) → (ℕ → ℕ → Bool) → �
 inside e t zero y = false
 inside e t (suc x) y = odd (inside e t x y) (t x y && odd (e x y) (e (suc x) y))
 
+pub data Touch (x y : ℕ) : ℕ → ℕ → Type 0 where
+  north-west : Touch x y x y
+  north-east : Touch x y (suc x) y
+  south-west : Touch x y x (suc y)
+  south-east : Touch x y (suc x) (suc y)
+
 -- A row, from its west end.
 module _ (e t : ℕ → ℕ → Bool) where
   inside-step : (x y : ℕ) → inside e t (suc x) y ≡ odd (inside e t x y) (t x y && odd (e x y) (e (suc x) y))
@@ -96,12 +103,16 @@ module _ (e t : ℕ → ℕ → Bool) where
   inside-start (suc x) y f =
       inside-step x y ∙ rw (inside-start x y (λ k l. f k (omega arith)), f x (le-refl (suc x)))
 
+  -- past a place that is not of the piece
+  still-east : (x y : ℕ) → t x y ≡ false → inside e t (suc x) y ≡ inside e t x y
+  still-east x y q = inside-step x y ∙ rw q (odd-false (inside e t x y))
+
   -- beside each other, where the cells do not differ
   pub inside-east : (x y : ℕ) → e x y ≡ e (suc x) y → inside e t (suc x) y ≡ inside e t x y
   inside-east x y q = inside-step x y ∙ odd-keeps (inside e t x y) (t x y) (e x y) (e (suc x) y) q
 
   -- round a place of the piece the cells inside and those of the region change together
-  pub round-east : (x y : ℕ) → t x y ≡ true → odd (inside e t (suc x) y) (e (suc x) y) ≡ odd (inside e t x y) (e x y)
+  round-east : (x y : ℕ) → t x y ≡ true → odd (inside e t (suc x) y) (e (suc x) y) ≡ odd (inside e t x y) (e x y)
   round-east x y q =
       rw (inside-step x y, q) (simp odd-false at (odd-past (inside e t x y) true (e x y) (e (suc x) y) false))
 
@@ -194,9 +205,46 @@ module _ {w h : ℕ} {e t : ℕ → ℕ → Bool} (g : Edged w h e t) where
   pub inside-south : (x y : ℕ) → e x y ≡ e x (suc y) → inner x (suc y) ≡ inner x y
   inside-south x y q = inside-down x y ∙ odd-keeps (inner x y) (t x y) (e x y) (e x (suc y)) q
 
-  pub round-south : (x y : ℕ) → t x y ≡ true → odd (inner x (suc y)) (e x (suc y)) ≡ odd (inner x y) (e x y)
+  round-south : (x y : ℕ) → t x y ≡ true → odd (inner x (suc y)) (e x (suc y)) ≡ odd (inner x y) (e x y)
   round-south x y q =
       rw (inside-down x y, q) (simp odd-false at (odd-past (inner x y) true (e x y) (e x (suc y)) false))
+
+  -- south of a place a line is crossed as one is north of it
+  inside-corner : (x y : ℕ)
+      → inner (suc x) (suc y) ≡ odd (inner x (suc y)) (t x y && odd (e x (suc y)) (e (suc x) (suc y)))
+  inside-corner x y =
+      inside-step e t x (suc y)
+      ∙ rw (← odd-at (t x y) (t x (suc y)) (e x (suc y)) (e (suc x) (suc y)) (g .upright x y))
+
+  still-south : (x y : ℕ) → t x y ≡ false → inner x (suc y) ≡ inner x y
+  still-south x y q = inside-down x y ∙ rw q (odd-false (inner x y))
+
+  -- round a place that is not of the piece all four cells lie inside, or none does
+  pub still-touch : {x y u v : ℕ} → t x y ≡ false → Touch x y u v → inner u v ≡ inner x y
+  still-touch {x} {y} q north-west = refl
+  still-touch {x} {y} q north-east = still-east e t x y q
+  still-touch {x} {y} q south-west = still-south x y q
+  still-touch {x} {y} q south-east = inside-corner x y ∙ rw q (odd-false (inner x (suc y))) ∙ still-south x y q
+
+  -- round a place of the piece the cells inside and those of the region change together
+  pub round-touch : {x y u v : ℕ} → t x y ≡ true → Touch x y u v → odd (inner u v) (e u v) ≡ odd (inner x y) (e x y)
+  round-touch {x} {y} q north-west = refl
+  round-touch {x} {y} q north-east = round-east e t x y q
+  round-touch {x} {y} q south-west = round-south x y q
+  round-touch {x} {y} q south-east =
+      let b = e x (suc y) in
+      rw (inside-corner x y, q) (simp odd-false at (odd-past (inner x (suc y)) true b (e (suc x) (suc y)) false))
+      ∙ round-south x y q
+
+  -- as far as no place is of the piece, no cell south-east of one lies inside
+  pub inside-begin : (x y : ℕ) → ((k : ℕ) → k ≤ x → t k y ≡ false) → inner (suc x) (suc y) ≡ false
+  inside-begin x y f =
+      inside-down (suc x) y
+      ∙ rw (
+        inside-start e t (suc x) y (λ k l. f k (omega arith)),
+        ← odd-at (t x y) (t (suc x) y) (e (suc x) y) (e (suc x) (suc y)) (g .level x y),
+        f x (le-refl x),
+      )
 
   -- no cell off the sheet lies inside
   edge-north : (x : ℕ) → inner x 0 ≡ false

@@ -4,6 +4,7 @@
 --   ones t          == the darts that a table of links has, in order
 --   read t ds       == the entries of a table at some places
 --   refusal ..      == the number of joining a with b in the drawing of a sheet
+--   holes-of w h s rs == how many holes some regions of a sheet have
 --   accepted w h t  == 1 where the tables t are a drawing, else 0
 --   spoilt w h t    == the same of the tables t with one entry changed, in each of the five in turn
 --   hanging w h l   == the points that have exactly one line of the links l
@@ -24,6 +25,7 @@ use Rattle.point_darts.specs.Point.{degree}
 use Rattle.paper.specs.Name.{names}
 use Rattle.paper.specs.Level.{mask, level, marked}
 use Rattle.paper.specs.Enclosure.{depth, holes}
+use Rattle.paper.specs.Contour.{innerContours}
 use Rattle.paper.specs.Drawing.{Tables, drawing, fresh, isDrawing}
 use Rattle.paper.specs.Joining.{Links, at, on, rest1, rest3, joined}
 use Rattle.paper.specs.Refusal.{merged}
@@ -90,6 +92,17 @@ bent-inside = 65 ∷ 65 ∷ 65 ∷ 65 ∷ 65 ∷ 65 ∷ 66 ∷ 65 ∷ 65 ∷ 66 
 -- the same with its lower left cell a region of its own
 bent-parts : List ℕ
 bent-parts = 65 ∷ 65 ∷ 65 ∷ 65 ∷ 65 ∷ 65 ∷ 66 ∷ 65 ∷ 65 ∷ 67 ∷ 66 ∷ 65 ∷ 65 ∷ 65 ∷ 65 ∷ 65 ∷ []
+
+-- B and C side by side in the middle of A
+two-parcels : List ℕ
+two-parcels = 65 ∷ 65 ∷ 65 ∷ 65 ∷ 65 ∷ 66 ∷ 67 ∷ 65 ∷ 65 ∷ 65 ∷ 65 ∷ 65 ∷ []
+
+-- B twice in A, apart
+two-ponds : List ℕ
+two-ponds = 65 ∷ 65 ∷ 65 ∷ 65 ∷ 65 ∷ 65 ∷ 66 ∷ 65 ∷ 66 ∷ 65 ∷ 65 ∷ 65 ∷ 65 ∷ 65 ∷ 65 ∷ []
+
+holes-of : ℕ → ℕ → List ℕ → List ℕ → List ℕ
+holes-of w h s rs = let t = drawing w h s in map (holes w h (on (t .side1)) (t .parent)) rs
 
 accepted : ℕ → ℕ → Tables → List ℕ
 accepted w h t = number (isDrawing w h t) ∷ []
@@ -172,7 +185,14 @@ beside-claims =
     ∷ record { computed = spoilt 2 1 (drawing 2 1 p2); stated = 0 ∷ 0 ∷ 0 ∷ 0 ∷ 0 ∷ [] }
     -- depth and hole count of the outside, of a ring and of what the ring encloses
     ∷ record { computed = map (depth ((drawing 3 3 p5) .parent)) (0 ∷ 1 ∷ 5 ∷ []); stated = 0 ∷ 1 ∷ 2 ∷ [] }
-    ∷ record { computed = map (holes ((drawing 3 3 p5) .parent)) (0 ∷ 1 ∷ 5 ∷ []); stated = 1 ∷ 1 ∷ 0 ∷ [] }
+    ∷ record { computed = holes-of 3 3 p5 (0 ∷ 1 ∷ 5 ∷ []); stated = 1 ∷ 1 ∷ 0 ∷ [] }
+    -- a hole is a hole, however many regions fill it; two are two, though they hold like labels; the outside has one
+    ∷ record { computed = holes-of 4 3 two-parcels (0 ∷ 1 ∷ 6 ∷ 7 ∷ []); stated = 1 ∷ 1 ∷ 0 ∷ 0 ∷ [] }
+    ∷ record { computed = holes-of 5 3 two-ponds (0 ∷ 1 ∷ 7 ∷ 9 ∷ []); stated = 1 ∷ 2 ∷ 0 ∷ 0 ∷ [] }
+    ∷ record { computed = holes-of 3 3 p6 (0 ∷ 1 ∷ 5 ∷ 9 ∷ []); stated = 1 ∷ 0 ∷ 0 ∷ 0 ∷ [] }
+    -- as many inner contours
+    ∷ record { computed = map (innerContours 3 3 (names 3 3 p5)) (0 ∷ 1 ∷ 5 ∷ []); stated = 1 ∷ 1 ∷ 0 ∷ [] }
+    ∷ record { computed = map (innerContours 4 3 (names 4 3 two-parcels)) (0 ∷ 1 ∷ 6 ∷ []); stated = 1 ∷ 1 ∷ 0 ∷ [] }
     -- the limits of width and height
     ∷ record { computed = map (λ n. number (within n 1)) (0 ∷ 1 ∷ 72 ∷ 73 ∷ []); stated = 0 ∷ 1 ∷ 1 ∷ 0 ∷ [] }
     ∷ record { computed = map (λ n. number (within 1 n)) (0 ∷ 1 ∷ 72 ∷ 73 ∷ []); stated = 0 ∷ 1 ∷ 1 ∷ 0 ∷ [] }
@@ -213,11 +233,15 @@ hanging-claims : List Claim
 hanging-claims = map (λ j. record { computed = hanging-ends j; stated = [] }) joins
 
 sheets-open : Unit {0}
-unfolding p1 p2 p3 p5 p6 p7 p8 row halves open-ring bent-inside bent-parts
+unfolding p1 p2 p3 p5 p6 p7 p8 row halves open-ring bent-inside bent-parts two-parcels two-ponds
 sheets-open = tt
 
+joins-open : Unit {0}
+unfolding joins hanging hanging-ends hanging-claims
+joins-open = tt
+
 cases-open : Unit {0}
-unfolding opened sheets-open refusal accepted spoilt darts picked ones read claims beside-claims joins hanging hanging-ends hanging-claims
+unfolding opened sheets-open joins-open refusal accepted spoilt holes-of darts picked ones read claims beside-claims
 cases-open = tt
 
 claims-hold : failed equal 0 claims ≡ []

@@ -11,7 +11,8 @@ use Rattle.point_rules.specs.Turn.{turn}
 use Rattle.paper.specs.Name.{label, west, north, names, named, cells}
 use Rattle.paper.specs.Level.{side, border, mask, next, plain, last, along, big, bent, tops, anchor, kept2, kept3, among}
 use Rattle.paper.specs.Level.{level, marked}
-use Rattle.paper.specs.Enclosure.{topSide, parent, parents, above, depth, holes}
+use Rattle.paper.specs.Enclosure.{topSide, parent, parents, above, depth, hole, holes}
+use Rattle.paper.specs.Contour.{reached, contour, outermost, innerContours}
 use Rattle.paper.specs.Drawing.{drawn, drawing, fresh, recover, recovered, same, isDrawing}
 use Rattle.paper.specs.Joining.{at, on, between, shared, chase, removed, rest1, rest3, low, high, spliced}
 use Rattle.paper.specs.Joining.{smooth, smooths, smoothed, moved, close, closes, closed, joined}
@@ -36,8 +37,12 @@ levels-open : Unit {0}
 unfolding label west north names named cells side border mask next plain last along big bent tops anchor kept2 kept3 among
 levels-open = tt
 
+contours-open : Unit {0}
+unfolding reached contour outermost innerContours
+contours-open = tt
+
 drawings-open : Unit {0}
-unfolding level marked topSide parent parents above depth holes drawn drawing fresh recover recovered equal same isDrawing
+unfolding level marked topSide parent parents above depth hole holes drawn drawing fresh recover recovered equal same isDrawing
 drawings-open = tt
 
 joins-open : Unit {0}
@@ -53,5 +58,5 @@ unfolding givenTests used adjoin nameTests joinRefusal merged countRefusal deepe
 names-open = tt
 
 unfoldable pub opened : Unit {0}
-unfolding laws-open points-open masks-open levels-open drawings-open joins-open refusals-open names-open failed
+unfolding laws-open points-open masks-open levels-open contours-open drawings-open joins-open refusals-open names-open failed
 opened = tt

@@ -159,7 +159,8 @@ calls =
     ∷ record { computed = holed 1 1 (rubbish 2) 9 (works 16 17); stated = refused 4 (five (rubbish 2)) (works 16 17) }
     ∷ record { computed = holed 1 1 (rubbish 2) 9 (works 16 16); stated = refused 5 (five (rubbish 2)) (clean 16) }
     ∷ record { computed = holed 2 1 two 3 (works 24 24); stated = refused 8 (five two) (clean 24) }
-    ∷ record { computed = holed 2 1 two 0 (works 24 24); stated = ended 0 (2 ∷ []) (five two) (clean 24) }
+    ∷ record { computed = holed 1 1 one 0 (works 16 16); stated = ended 0 (1 ∷ []) (five one) (clean 16) }
+    ∷ record { computed = holed 2 1 two 0 (works 24 24); stated = ended 0 (1 ∷ []) (five two) (clean 24) }
     ∷ record { computed = holed 2 1 two 2 (works 24 24); stated = ended 0 (0 ∷ []) (five two) (clean 24) }
     ∷ []
 

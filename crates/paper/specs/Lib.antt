@@ -1,3 +1,4 @@
+pub mod Contour
 pub mod Drawing
 pub mod Enclosure
 pub mod Joining

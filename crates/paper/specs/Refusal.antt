@@ -119,4 +119,4 @@ unfoldable pub deepened : ℕ → ℕ → Tables → ℕ → List (List ℕ) →
 deepened w h t r ws = outcome (countRefusal w h t r ws) (depth (t .parent) r ∷ []) (five t) (five t) ws
 
 unfoldable pub holed : ℕ → ℕ → Tables → ℕ → List (List ℕ) → Outcome
-holed w h t r ws = outcome (countRefusal w h t r ws) (holes (t .parent) r ∷ []) (five t) (five t) ws
+holed w h t r ws = outcome (countRefusal w h t r ws) (holes w h (on (t .side1)) (t .parent) r ∷ []) (five t) (five t) ws

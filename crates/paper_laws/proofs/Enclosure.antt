@@ -196,7 +196,7 @@ module _ (w h : ℕ) (s : List ℕ) where
       inr (record { cell = getD n j 0 - 1; bears = e; below = omega arith; own = name-own w h s j k ∙ e }))
 
   pub side-used : (d : ℕ) → (side w h (names w h s) d ≡ 0) ⊎ Used w h (names w h s) (side w h (names w h s) d)
-  side-used d = let (x, y, e) = side-named w h n d in rw e (named-used x y)
+  side-used d = let (x, y, _, e) = side-named w h n d in rw e (named-used x y)
 
   pub side-below : (d : ℕ) → side w h (names w h s) d ≤ w * h
   side-below d = ⊎-elim (λ e. omega arith) (λ u. omega arith) (side-used d)

@@ -1,5 +1,6 @@
 -- The cells by column and row, and the darts along their top sides.
 --   named w h n x y == the name of the cell north-west of the place in column x and row y; 0 off the sheet
+--   Touch x y u v   == the cell in column u and row v is one of the four round the place in column x and row y
 --   topSide w i     == the dart that runs east along the top side of cell i
 --   every-cell      == a law of the cells by column and row is a law of every cell
 --   used w h s i    == the name suc i is in use: the top side of cell i is a line, and bears that name
@@ -15,6 +16,7 @@ use lib.Dec.{eqb, ltb}
 use lib.ListN.{getD}
 use borrow.Author.Tests.{lt-ltb, ltb-true, eqb-true, eq-eqb}
 use Rattle.laws.proofs.Test.{and-true, and-right}
+use Rattle.laws.proofs.Parity.{Touch, north-west, north-east, south-west, south-east}
 use Rattle.point_darts.specs.Dart.{dart, point, direction}
 use Rattle.point_darts.specs.Point.{corner, right}
 use Rattle.point_darts.proofs.Darts.{four, place, direction-below}
@@ -60,14 +62,16 @@ module _ (w h : ℕ) (n : List ℕ) where
       go true false p q = z
       go false b p q = z
 
-  -- the side of a dart is the name of some place
-  pub side-named : (d : ℕ) → (x : ℕ) × (y : ℕ) × (side w h n d ≡ named w h n x y)
+  -- the side of a dart is the name of one of the four cells round its point
+  pub side-named : (d : ℕ)
+      → (x : ℕ) × (y : ℕ) × Touch (point d % (w + 1)) (point d / (w + 1)) x y × (side w h n d ≡ named w h n x y)
   unfolding side cells right corner
   side-named d =
       let x = point d % (w + 1) in
       let y = point d / (w + 1) in
-      four (λ k. (x : ℕ) × (y : ℕ) × (right (cells w h n (point d)) k ≡ named w h n x y))
-      (suc x, suc y, refl) (x, suc y, refl) (x, y, refl) (suc x, y, refl) (direction d) (direction-below d)
+      four (λ k. (u : ℕ) × (v : ℕ) × Touch x y u v × (right (cells w h n (point d)) k ≡ named w h n u v))
+      (suc x, suc y, south-east, refl) (x, suc y, south-west, refl) (x, y, north-west, refl) (suc x, y, north-east, refl)
+      (direction d) (direction-below d)
 
   -- the dart along the top side of a cell has the cell on its right
   pub top-side-name : (i : ℕ) → i < w * h → side w h n (topSide w i) ≡ getD n i 0

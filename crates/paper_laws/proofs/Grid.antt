@@ -14,6 +14,7 @@ use lib.Dec.{ltb}
 use lib.ListN.{getD}
 use borrow.Author.Tests.{lt-ltb, ltb-true}
 use Rattle.laws.specs.Table.{table}
+use Rattle.laws.proofs.Test.{same-test}
 use Rattle.laws.proofs.Table.{getD-table}
 use Rattle.laws.proofs.Chart.{Map, Chart, less}
 use Rattle.point_darts.specs.Dart.{dart, point, direction, line}
@@ -36,7 +37,8 @@ module _ (w h : ℕ) where
   named-own x y a b = rw (lt-ltb x w a, lt-ltb y h b) (getD-table (w * h) suc (y * w + x) 0 (cell-below w h x y a b))
 
   -- cells above one another differ, and the outermost differ from the outside
-  rows-differ : 1 ≤ h → (x y : ℕ) → x < w → y ≤ h → named w h (own w h) (suc x) (suc y) ≡ named w h (own w h) (suc x) y → ⊥
+  rows-differ : 1 ≤ h → (x y : ℕ) → x < w → y ≤ h
+      → named w h (own w h) (suc x) (suc y) ≡ named w h (own w h) (suc x) y → ⊥
   rows-differ z x zero a b e = omega (arith, sym (named-own x 0 a z) ∙ e ∙ named-north w h (own w h) (suc x))
   rows-differ z x (suc y) a b e = go (decLt (suc y) h)
     where
@@ -84,12 +86,7 @@ module _ (w h : ℕ) (v : 1 ≤ w) (u : 1 ≤ h) where
 
   -- where all cells differ, every line is a border
   pub own-border : (d : ℕ) → border w h (own w h) d ≡ line w h d
-  own-border d = alike (border-line w h (own w h) d) (line-border d)
-    where
-      alike : {a b : Bool} → (a ≡ true → b ≡ true) → (b ≡ true → a ≡ true) → a ≡ b
-      alike {a = true} {b = b} p q = sym (p refl)
-      alike {a = false} {b = true} p q = q refl
-      alike {a = false} {b = false} p q = refl
+  own-border d = same-test (border w h (own w h) d) (line w h d) (border-line w h (own w h) d) (line-border d)
 
 unfoldable pub grid : ℕ → ℕ → Map
 unfolding lines-map

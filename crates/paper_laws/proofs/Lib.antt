@@ -2,14 +2,17 @@ pub mod Along
 pub mod Between
 pub mod Cells
 pub mod Closed
+pub mod Contour
 pub mod Curve
 pub mod Depth
 pub mod Drawn
 pub mod Enclosure
+pub mod Even
 pub mod Fewer
 pub mod First
 pub mod Grid
 pub mod Held
+pub mod Hole
 pub mod IsDrawing
 pub mod Joined
 pub mod Kept
@@ -19,6 +22,7 @@ pub mod Midway
 pub mod Name
 pub mod Neighbour
 pub mod Next
+pub mod Outer
 pub mod Pair
 pub mod Parity
 pub mod Piece

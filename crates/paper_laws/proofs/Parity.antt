@@ -1,26 +1,27 @@
 -- The cells inside a piece of lines: those from which the way west to the edge crosses an odd number of the piece's
 -- lines that have the region round the piece on one side.
 --   top w h on p    == the least point of the piece of p
---   Head w h on t   == t is the least point of a piece that has a line
 --   of-region w h n q x y == the cell north-west of the place in column x and row y has the name q
 --   of-piece w h n t x y  == that place is of the piece whose least point is t
 --   Edged w h e t   == where exactly one of two cells is of the region e, the ends of the line between them are both of
 --                      the piece t or both not; and off the sheet there are no such cells
 --   nook w h n t    == the name of the cell north-west of the point t: if t is the least of a piece, the region round it
 --   inner w h n t x y == west of the cell is an odd number of the lines of the piece t between its nook and others
+--   Touch x y u v   == the cell in column u and row v is one of the four round the place in column x and row y
 --   parted .. x y   == the cell lies inside or is of the region round the piece, and not both
 use mathlib.Core.Path.{_≡_, refl, sym, ap, _∙_}
-use mathlib.Core.Bool.{Bool, true, false, _&&_}
+use mathlib.Core.Bool.{Bool, true, false, not, _&&_}
 use mathlib.Core.List.{List}
 use mathlib.Core.Logic.{_≢_}
 use Prim.Native.Nat.{ℕ, suc, _+_, _/_, _%_, _<_, _≤_}
+use native.Mathlib.Nat.{le-refl}
 use native.Mathlib.Decide.{decLe}
 use native.Mathlib.Omega.{arith}
 use lib.Dec.{eqb, lit<}
-use borrow.Author.Tests.{eq-eqb, ne-eqb}
-use Rattle.laws.proofs.Test.{clash, and-true, and-right}
-use Rattle.laws.proofs.Parity.{odd, odd-false, Edged, inside, inside-start, inside-east, inside-south}
-use Rattle.laws.proofs.Parity.{round-east, round-south, joined-same}
+use borrow.Author.Tests.{eq-eqb, ne-eqb, not-true}
+use Rattle.laws.proofs.Test.{clash}
+use Rattle.laws.proofs.Parity.{joined-same, odd, odd-false, Edged, inside, inside-start, inside-east, inside-south}
+use Rattle.laws.proofs.Parity.{Touch, north-east, south-west, south-east, still-touch, round-touch}
 use Rattle.point_darts.specs.Dart.{dart, point, reversal, line}
 use Rattle.point_darts.proofs.Darts.{place, point-dart, column, row, place-own, every-line}
 use Rattle.point_darts.proofs.Darts.{reversal-east, reversal-south, reversal-west, reversal-north}
@@ -28,10 +29,9 @@ use Rattle.paper.specs.Name.{named}
 use Rattle.paper.specs.Level.{border}
 use Rattle.paper_laws.proofs.Cells.{named-west, named-north, named-east, named-south}
 use Rattle.paper_laws.proofs.Sheet.{side-east, side-south, across-east, across-south, differs-border}
-use Rattle.paper_laws.proofs.Sheet.{border-line, sheet}
-use Rattle.paper_laws.proofs.Piece.{tops-le}
-use Rattle.paper_laws.proofs.Kept.{top, sheet-tops}
-use Rattle.paper_laws.proofs.Enclosure.{Head}
+use Rattle.paper_laws.proofs.Sheet.{border-line, border-lines, sheet}
+use Rattle.paper_laws.proofs.Piece.{tops-le, tops-tops}
+use Rattle.paper_laws.proofs.Kept.{top, dart-point, sheet-tops}
 
 -- The two ends of a line are of one piece.
 module _ (w h : ℕ) (n : List ℕ) where
@@ -121,14 +121,91 @@ and-same true false c d e f = clash refl e
 and-same false true c d e f = clash refl (sym e)
 and-same false false c d e f = refl
 
+-- What is one at the four cells round each point of some pieces is one north-west of all points of each of these.
+module _ (w h : ℕ) (n : List ℕ) (f : ℕ → Bool) (g : ℕ → ℕ → Bool)
+    (keeps : (x y u v : ℕ) → f (top w h (border w h n) (place w x y)) ≡ true → Touch x y u v → g u v ≡ g x y) where
+  -- a point is of one of the pieces
+  abbrev here : ℕ → Bool
+  here p = f (top w h (border w h n) p)
+
+  abbrev at : ℕ → Bool
+  at p = g (p % (w + 1)) (p / (w + 1))
+
+  at-place : (x y : ℕ) → x ≤ w → at (place w x y) ≡ g x y
+  at-place x y l = rw (column w x y l, row w x y l)
+
+  -- along a line
+  at-east : (x y : ℕ) → x < w → here (place w x y) ≡ true → at (place w x y) ≡ at (place w (suc x) y)
+  at-east x y l u = at-place x y (omega arith) ∙ sym (keeps x y (suc x) y u north-east) ∙ sym (at-place (suc x) y l)
+
+  at-south : (x y : ℕ) → x ≤ w → here (place w x y) ≡ true → at (place w x y) ≡ at (place w x (suc y))
+  at-south x y l u = at-place x y l ∙ sym (keeps x y x (suc y) u south-west) ∙ sym (at-place x (suc y) l)
+
+  abbrev Keeps : ℕ → ℕ → Type 0
+  Keeps p r = here p ≡ true → here r ≡ true → at p ≡ at r
+
+  keeps-dart : (p j r k : ℕ) → j < 4 → k < 4 → reversal w (dart p j) ≡ dart r k → Keeps p r
+      → Keeps (point (dart p j)) (point (reversal w (dart p j)))
+  keeps-dart p j r k a b q = rw (q, point-dart p j a, point-dart r k b) (λ f. f)
+
+  keeps-line : (d : ℕ) → line w h d ≡ true → Keeps (point d) (point (reversal w d))
+  keeps-line =
+      every-line w h (λ d. Keeps (point d) (point (reversal w d)))
+      (λ x y a b. keeps-dart (place w x y) 0 (place w (suc x) y) 2 (lit< tt) (lit< tt) (reversal-east w x y)
+      (λ u v. at-east x y a u))
+      (λ x y a b. keeps-dart (place w x y) 1 (place w x (suc y)) 3 (lit< tt) (lit< tt) (reversal-south w x y)
+      (λ u v. at-south x y a u))
+      (λ x y a b. keeps-dart (place w (suc x) y) 2 (place w x y) 0 (lit< tt) (lit< tt) (reversal-west w x y)
+      (λ u v. sym (at-east x y a v)))
+      (λ x y a b. keeps-dart (place w x (suc y)) 3 (place w x y) 1 (lit< tt) (lit< tt) (reversal-north w x y)
+      (λ u v. sym (at-south x y a v)))
+
+  -- and so along a chain of lines, here to the least point
+  abbrev both : ℕ → Bool
+  both p = here p && at p
+
+  chain-both : (d : ℕ) → border w h n d ≡ true → both (point d) ≡ both (top w h (border w h n) (point d))
+  unfolding sheet
+  chain-both d o =
+      joined-same both
+      (λ c i. let r = reversal w c in
+      and-same (here (point c)) (here (point r)) (at (point c)) (at (point r))
+      (ap f (sheet-tops w h n .along c i)) (keeps-line c (border-line w h n c i)))
+      (sheet-tops w h n .joined d o)
+
+  chain-keeps : (d : ℕ) → border w h n d ≡ true → here (point d) ≡ true
+      → at (point d) ≡ at (top w h (border w h n) (point d))
+  chain-keeps d o u =
+      let t = tops-tops w h (border w h n) (point d) (dart-point w h (border w h n) (border-lines w h n) d o) in
+      rw (t, u) at (chain-both d o)
+
+-- A cell north-west of a point does not lie inside a piece whose least point is that point or a later one: no place of
+-- the piece is west of the point in its row.
+outer-before : (w h : ℕ) (n : List ℕ) (t p : ℕ) → p ≤ t → inner w h n t (p % (w + 1)) (p / (w + 1)) ≡ false
+unfolding place
+outer-before w h n t p b =
+    let y = p / (w + 1) in
+    inside-start (of-region w h n (nook w h n t)) (of-piece w h n t) (p % (w + 1)) y
+    (λ k l. ne-eqb (top w h (border w h n) (place w k y)) t
+    (λ q. omega (arith, tops-le w h (border w h n) (place w k y), place-own w p)))
+
+-- No cell round a point of a piece lies inside a piece whose least point is later.
+pub outer-later : (w h : ℕ) (n : List ℕ) (t d : ℕ) → border w h n d ≡ true → top w h (border w h n) (point d) < t
+    → {u v : ℕ} → Touch (point d % (w + 1)) (point d / (w + 1)) u v → inner w h n t u v ≡ false
+outer-later w h n t d o l {u} {v} c =
+    let p : ℕ = point d in
+    let r : ℕ = top w h (border w h n) p in
+    let g = sheet-edged w h n (nook w h n t) t in
+    let a : eqb r t ≡ false = ne-eqb r t (λ e. omega arith) in
+    still-touch g (rw place-own a) c
+    ∙ chain-keeps w h n (λ q. not (eqb q t)) (inner w h n t) (λ x y u v e. still-touch g (not-true _ e)) d o
+    (ap not a)
+    ∙ outer-before w h n t r (omega arith)
+
 -- The piece with the least point t.
-module _ (w h : ℕ) (n : List ℕ) (t : ℕ) (s : Head w h (border w h n) t) where
+module _ (w h : ℕ) (n : List ℕ) (t : ℕ) where
   abbrev e : ℕ → ℕ → Bool
   e = of-region w h n (nook w h n t)
-
-  -- a point is of the piece
-  abbrev here : ℕ → Bool
-  here p = eqb (top w h (border w h n) p) t
 
   abbrev parted : ℕ → ℕ → Bool
   parted x y = odd (inner w h n t x y) (e x y)
@@ -136,85 +213,32 @@ module _ (w h : ℕ) (n : List ℕ) (t : ℕ) (s : Head w h (border w h n) t) wh
   abbrev parted-at : ℕ → Bool
   parted-at p = parted (p % (w + 1)) (p / (w + 1))
 
-  place-parted : (x y : ℕ) → x ≤ w → parted-at (place w x y) ≡ parted x y
-  place-parted x y l = rw (column w x y l, row w x y l)
-
-  -- west of its least point, in that row, no place is of the piece
-  head-outer : inner w h n t (t % (w + 1)) (t / (w + 1)) ≡ false
-  unfolding place
-  head-outer =
-      let y = t / (w + 1) in
-      inside-start e (of-piece w h n t) (t % (w + 1)) y
-      (λ k l. ne-eqb (top w h (border w h n) (place w k y)) t
-      (λ q. omega (arith, tops-le w h (border w h n) (place w k y), place-own w t)))
-
-  -- so the cell north-west of it does not lie inside, and is of the region round the piece
+  -- the cell north-west of its least point does not lie inside, and is of the region round the piece
   head-parted : parted-at t ≡ true
-  head-parted = rw (head-outer, eq-eqb (nook w h n t) (nook w h n t) refl)
+  head-parted = rw (outer-before w h n t t (le-refl t), eq-eqb (nook w h n t) (nook w h n t) refl)
 
-  -- along a line of the piece, the cells north-west of its ends are both parted or both not
-  east-parted : (x y : ℕ) → x < w → here (place w x y) ≡ true
-      → parted-at (place w x y) ≡ parted-at (place w (suc x) y)
-  east-parted x y l u =
-      place-parted x y (omega arith) ∙ sym (round-east e (of-piece w h n t) x y u) ∙ sym (place-parted (suc x) y l)
+  -- and so round every point of the piece each cell lies inside or is of that region, and not both
+  piece-parted : (d : ℕ) → border w h n d ≡ true → top w h (border w h n) (point d) ≡ t → {u v : ℕ}
+      → Touch (point d % (w + 1)) (point d / (w + 1)) u v → parted u v ≡ true
+  piece-parted d o q c =
+      let g = sheet-edged w h n (nook w h n t) t in
+      let a : eqb (top w h (border w h n) (point d)) t ≡ true = eq-eqb (top w h (border w h n) (point d)) t q in
+      round-touch g (rw place-own a) c
+      ∙ chain-keeps w h n (λ p. eqb p t) parted (λ x y u v. round-touch g) d o a
+      ∙ rw q head-parted
 
-  south-parted : (x y : ℕ) → x ≤ w → here (place w x y) ≡ true
-      → parted-at (place w x y) ≡ parted-at (place w x (suc y))
-  south-parted x y l u =
-      place-parted x y l ∙ sym (round-south (sheet-edged w h n (nook w h n t) t) x y u)
-      ∙ sym (place-parted x (suc y) l)
+  -- those that are not of that region lie inside
+  pub piece-inner : (d : ℕ) → border w h n d ≡ true → top w h (border w h n) (point d) ≡ t → {u v : ℕ}
+      → Touch (point d % (w + 1)) (point d / (w + 1)) u v → named w h n u v ≢ nook w h n t → inner w h n t u v ≡ true
+  piece-inner d o q {u} {v} c f =
+      sym (odd-false (inner w h n t u v))
+      ∙ (rw (ne-eqb (named w h n u v) (nook w h n t) f) at (piece-parted d o q c))
 
-  abbrev Keeps : ℕ → ℕ → Type 0
-  Keeps p r = here p ≡ true → here r ≡ true → parted-at p ≡ parted-at r
-
-  keeps-dart : (p j r k : ℕ) → j < 4 → k < 4 → reversal w (dart p j) ≡ dart r k → Keeps p r
-      → Keeps (point (dart p j)) (point (reversal w (dart p j)))
-  keeps-dart p j r k a b q = rw (q, point-dart p j a, point-dart r k b) (λ f. f)
-
-  line-parted : (d : ℕ) → line w h d ≡ true → Keeps (point d) (point (reversal w d))
-  line-parted =
-      every-line w h (λ d. Keeps (point d) (point (reversal w d)))
-      (λ x y a b. keeps-dart (place w x y) 0 (place w (suc x) y) 2 (lit< tt) (lit< tt) (reversal-east w x y)
-      (λ u v. east-parted x y a u))
-      (λ x y a b. keeps-dart (place w x y) 1 (place w x (suc y)) 3 (lit< tt) (lit< tt) (reversal-south w x y)
-      (λ u v. south-parted x y a u))
-      (λ x y a b. keeps-dart (place w (suc x) y) 2 (place w x y) 0 (lit< tt) (lit< tt) (reversal-west w x y)
-      (λ u v. sym (east-parted x y a v)))
-      (λ x y a b. keeps-dart (place w x (suc y)) 3 (place w x y) 1 (lit< tt) (lit< tt) (reversal-north w x y)
-      (λ u v. sym (south-parted x y a v)))
-
-  -- and so along a chain of lines, here to the least point
-  abbrev both : ℕ → Bool
-  both p = here p && parted-at p
-
-  chain-parted : (d : ℕ) → border w h n d ≡ true → both (point d) ≡ both (top w h (border w h n) (point d))
-  unfolding sheet
-  chain-parted d o =
-      joined-same both
-      (λ c i. let r = reversal w c in
-      and-same (here (point c)) (here (point r)) (parted-at (point c)) (parted-at (point r))
-      (eqb-same t (sheet-tops w h n .along c i)) (line-parted c (border-line w h n c i)))
-      (sheet-tops w h n .joined d o)
-
-  pub piece-parted : (d : ℕ) → border w h n d ≡ true → top w h (border w h n) (point d) ≡ t
-      → parted-at (point d) ≡ true
-  piece-parted d o q =
-      and-right (here (point d)) (parted-at (point d))
-      (chain-parted d o ∙ rw q (and-true (eq-eqb (top w h (border w h n) t) t (s .own)) head-parted))
-
-  -- below a line of the piece that runs east lies a cell of the region round the piece, or one inside
+  -- so does the cell below a line of the piece that runs east
   pub top-inner : (x y : ℕ) → x ≤ w → border w h n (dart (place w x y) 0) ≡ true
       → top w h (border w h n) (place w x y) ≡ t → named w h n (suc x) (suc y) ≢ nook w h n t
       → inner w h n t (suc x) (suc y) ≡ true
-  top-inner x y l o q f =
-      let d : ℕ = dart (place w x y) 0 in
-      let p : point d ≡ place w x y = point-dart (place w x y) 0 (lit< tt) in
-      let u : here (place w x y) ≡ true = eq-eqb (top w h (border w h n) (place w x y)) t q in
-      let v : here (place w (suc x) y) ≡ true = sym (eqb-same t (along-east w h n x y o)) ∙ u in
-      let a : parted-at (place w x y) ≡ true = rw p at (piece-parted d o (ap (top w h (border w h n)) p ∙ q)) in
-      let b : parted (suc x) (suc y) ≡ true =
-      round-south (sheet-edged w h n (nook w h n t) t) (suc x) y v ∙ round-east e (of-piece w h n t) x y u
-      ∙ sym (place-parted x y l)
-      ∙ a in
-      sym (odd-false (inner w h n t (suc x) (suc y)))
-      ∙ (rw (ne-eqb (named w h n (suc x) (suc y)) (nook w h n t) f) at b)
+  top-inner x y l o q =
+      let p : point (dart (place w x y) 0) ≡ place w x y = point-dart (place w x y) 0 (lit< tt) in
+      piece-inner (dart (place w x y) 0) o (ap (top w h (border w h n)) p ∙ q)
+      (rw (p, column w x y l, row w x y l) south-east)

@@ -2,8 +2,10 @@
 --   all n f         == every number below n passes the test f
 --   around m j      == the first line of m met when turning back from line j, at the latest j itself
 --   each a b f      == every mask m, j below a and k below b pass the test f m j k
+--   odd a b         == exactly one of a and b
+--   even f          == an even number of the four directions pass the test f
 --   turn-skip       == passing over the lines that are taken, from line to line, is turning among those that are left
-use mathlib.Core.Path.{_≡_, refl, sym, ap, _∙_}
+use mathlib.Core.Path.{_≡_, refl, sym, ap, ap₂, _∙_}
 use mathlib.Core.Bool.{Bool, true, false, not, cond, _&&_, _||_, false≢true, and-eq-true-iff}
 use mathlib.Core.List.{List}
 use mathlib.Core.Logic.{_⊎_, inl, inr}
@@ -13,11 +15,13 @@ use native.Mathlib.Decide.{ℕ-discrete}
 use lib.Dec.{eqb, ltb, leb, lit<}
 use borrow.Author.Tests.{eqb-true, ltb-true, eq-eqb, ne-eqb, le-leb}
 use Rattle.laws.specs.Run.{run}
+use Rattle.laws.proofs.Test.{and-under}
+use Rattle.laws.proofs.Parity.{odd}
 use Rattle.point_darts.specs.Dart.{turned}
 use Rattle.point_darts.specs.Point.{bits, half, has, right, parts, present, degree, inline}
 use Rattle.point_rules.specs.Turn.{turn, without}
 use Rattle.point_darts.proofs.Darts.{four, turned-below, turned-round}
-use Rattle.point_darts.proofs.Points.{bits-same, has-present, right-back}
+use Rattle.point_darts.proofs.Points.{bits-same, bits-below, has-bits, has-present, right-back}
 
 abbrev pub all : ℕ → (ℕ → Bool) → Bool
 all zero f = true
@@ -67,6 +71,17 @@ skips m t k = not (eqb (without t m) 0 && not (eqb t 0)) || eqb (run (around m) 
 abbrev straightens : ℕ → ℕ → ℕ → Bool
 straightens m i k = not (has m (turned k 2) && eqb (degree m) 2 && not (eqb (inline m) 0)) || eqb (turn m k) k
 
+-- turning back leads from each line to each other
+abbrev leads : ℕ → ℕ → ℕ → Bool
+leads m j k = not (has m j && has m k) || eqb (run (around m) (λ i. eqb i k) 4 j) k
+
+abbrev pub even : (ℕ → Bool) → Bool
+even f = not (odd (odd (f 3) (f 1)) (odd (f 2) (f 0)))
+
+-- an even number of the lines m differ, as to being in t, from the line met first when turning back
+abbrev evens : ℕ → ℕ → ℕ → Bool
+evens m t i = even (λ k. has m k && odd (has t k) (has t (around m k)))
+
 all-find : each 1 4 finds ≡ true
 unfolding turn has half turned
 all-find = refl
@@ -86,6 +101,14 @@ all-skip = refl
 all-straighten : each 1 4 straightens ≡ true
 unfolding turn degree inline bits has half turned
 all-straighten = refl
+
+all-lead : each 4 4 leads ≡ true
+unfolding around turn run has half turned
+all-lead = refl
+
+all-even : each 16 1 evens ≡ true
+unfolding around turn has half turned
+all-even = refl
 
 module _ (m : ℕ) (b : m < 16) where
   found : (k : ℕ) → k < 4 → (m ≡ 0 → ⊥) → (turn m k < 4) × (has m (turn m k) ≡ true)
@@ -158,6 +181,30 @@ pub without-none : (m t : ℕ) → ((k : ℕ) → k < 4 → has t k ≡ true →
 unfolding without bits
 without-none m t h =
     bits-same (λ k. has t k && not (has m k)) (λ k. false) (λ k l. within (has t k) (has m k) (h k l))
+
+-- Turning back round a point.
+module _ (m : ℕ) (b : m < 16) where
+  pub around-below : (k : ℕ) → k < 4 → has m k ≡ true → around m k < 4
+  unfolding around
+  around-below k l e = turn-below m b (turned k 2) (turned-below k 2) (has-some m k l e)
+
+  pub around-has : (k : ℕ) → k < 4 → has m k ≡ true → has m (around m k) ≡ true
+  unfolding around
+  around-has k l e = turn-has m b (turned k 2) (turned-below k 2) (has-some m k l e)
+
+  pub around-leads : (j k : ℕ) → j < 4 → k < 4 → has m j ≡ true → has m k ≡ true
+      → run (around m) (λ i. eqb i k) 4 j ≡ k
+  around-leads j k p q u v = eqb-true _ k (rw (u, v) at (each-at 4 4 leads all-lead m b j k p q))
+
+  pub around-even : (f : ℕ → Bool) → even (λ k. has m k && odd (f k) (f (around m k))) ≡ true
+  around-even f =
+      let t = bits f in
+      let at : (k : ℕ) → k < 4
+      → (has m k && odd (has t k) (has t (around m k))) ≡ (has m k && odd (f k) (f (around m k))) =
+      λ k l. and-under (has m k) _ _
+      (λ e. ap₂ odd (has-bits f k l) (has-bits f (around m k) (around-below k l e))) in
+      rw (at 0 (lit< tt), at 1 (lit< tt), at 2 (lit< tt), at 3 (lit< tt))
+      at (each-at 16 1 evens all-even m b t 0 (bits-below f) (lit< tt))
 
 -- the first that is chosen of four, where each that is passed over has the value of the one after it
 chosen : (R : ℕ → ℕ) (a b c d : ℕ) (p q r s : Bool)

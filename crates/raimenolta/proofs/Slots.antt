@@ -11,6 +11,7 @@ use lib.ListN.{length}
 use borrow.Author.Tests.{ne-eqb}
 use Rattle.paper.specs.Enclosure.{depth, holes}
 use Rattle.paper.specs.Drawing.{Tables}
+use Rattle.paper.specs.Joining.{on}
 use Rattle.paper.specs.Refusal.{Outcome, ended, outcome, five, countRefusal, deepened, holed}
 use Rattle.count_answer.specs.declared.Count.{Count}
 use Rattle.answer.specs.Answer.{numberOf}
@@ -36,7 +37,7 @@ module _ (w h : ℕ) (t : Tables) (r : ℕ) (ws : List (List ℕ)) where
 
   pub holes-valued : holed w h t r ws .number ≡ 0 → holed w h t r ws .values ≢ []
   unfolding holed
-  holes-valued = valued (countRefusal w h t r ws) (holes (t .parent) r) (five t) (five t) ws
+  holes-valued = valued (countRefusal w h t r ws) (holes w h (on (t .side1)) (t .parent) r) (five t) (five t) ws
 
 -- A count's answer, with its value in a slot.
 module _ (ts ws : List (List ℕ)) (o : Outcome) (l n v : ℕ) where

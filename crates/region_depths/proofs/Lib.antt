@@ -1,5 +1,3 @@
-pub mod Children
 pub mod Climb
 mod Deepening
 pub mod Fall
-mod Tally

@@ -5,12 +5,10 @@ use mathlib.Core.Path.{_≡_}
 use mathlib.Core.Bool.{cond}
 use mathlib.Core.List.{List}
 use Prim.Native.Nat.{ℕ, _≤_, _<_}
-use lib.Dec.{eqb}
 use lib.ListN.{length, getD}
-use Rattle.laws.specs.Table.{table, count}
+use Rattle.laws.specs.Table.{table}
 use Rattle.point_darts.specs.Dart.{mark}
 use Rattle.paper.specs.Enclosure.{depth}
-use Rattle.paper.specs.Joining.{at}
 use Rattle.region_depths.specs.Tree.{known, Falls}
 
 unfoldable pub countedAt : (List ℕ → ℕ → ℕ) → List ℕ → ℕ → ℕ
@@ -19,20 +17,11 @@ countedAt f t r = cond (known t r) (f t r) mark
 unfoldable pub counts : (List ℕ → ℕ → ℕ) → List ℕ → List ℕ
 counts f t = table (length t) (countedAt f t)
 
--- On the way to the counts of all names.
+-- On the way to the depths of all names.
 --   Deepened t r l  == l has the depths of the names below r
---   Tallied t i l   == l has, for each name, how many of the names below i have it for a parent
 pub record Deepened (t : List ℕ) (r : ℕ) (l : List ℕ) : Type 0 where
   pub falls : Falls t
   pub fits : length t ≤ mark
   pub below : r < length t
   pub long : length l ≡ length t
   pub entry : (k : ℕ) → k < r → getD l k 0 ≡ countedAt depth t k
-
--- no hole yet: 0 at the outside and at each name in use
-unfoldable pub started : List ℕ → ℕ → ℕ
-started t r = cond (known t r) 0 mark
-
-pub record Tallied (t : List ℕ) (i : ℕ) (l : List ℕ) : Type 0 where
-  pub long : length l ≡ length t
-  pub entry : (k : ℕ) → k < length t → getD l k 0 ≡ cond (known t k) (count i (λ q. eqb (at t q) k)) mark

@@ -1,10 +1,9 @@
-// The tree of regions: the depth and the holes of one name, from the table of parents.
+// The tree of regions: the depth of one name, from the table of parents.
 ghost use mathlib.Core.Path.{_≡_};
 ghost use mathlib.Core.Bool.{true};
 ghost use Prim.Native.Nat.{_≤_, _<_};
 ghost use lib.ListN.{length};
-ghost use Rattle.point_darts.specs.Dart.{mark};
-ghost use Rattle.paper.specs.Enclosure.{depth, holes};
+ghost use Rattle.paper.specs.Enclosure.{depth};
 ghost use Rattle.region_depths.specs.Tree.{known, Falls};
 
 // How many parents up from a name the outside is. Each parent has a smaller name.
@@ -14,22 +13,4 @@ pub fn depth(parent: &[u16], name: u16) -> u16
 {
     let up = parent[name as usize];
     if up < name { depth(parent, up) + 1 } else { 0 }
-}
-
-// How many names have this parent.
-pub fn holes(parent: &[u16], name: u16) -> u16
-    requires { ⌜ length (now parent) ≤ mark ⌝ }
-    ensures { λ r. ⌜ r ≡ holes (now (parent .entry)) name ⌝ }
-{
-    let n = parent.len();
-    let mut count: u16 = 0;
-    let mut i: usize = 0;
-    while i < n {
-        let up = parent[i];
-        i += 1;
-        if up == name {
-            count += 1;
-        }
-    }
-    count
 }

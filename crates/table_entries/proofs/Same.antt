@@ -15,7 +15,7 @@ use lib.Seq.{ext-getD}
 use borrow.Author.Tests.{eq-eqb, eqb-true}
 use Rattle.laws.specs.Equal.{equal}
 use Rattle.laws.proofs.Equal.{equal-iff}
-use Rattle.laws.proofs.Test.{and-true, and-left, and-right}
+use Rattle.laws.proofs.Test.{and-true, and-left, and-right, same-test}
 
 unfoldable pub agreed : ℕ → List ℕ → List ℕ → Bool
 agreed zero t u = true
@@ -40,12 +40,6 @@ module _ (t u : List ℕ) where
   unfolding agreed
   agreed-own zero e = refl
   agreed-own (suc i) e = and-true (agreed-own i e) (eq-eqb _ _ (ap (λ l. getD l i 0) e))
-
-  -- tests of one fact are one
-  same-test : (a b : Bool) → (a ≡ true → b ≡ true) → (b ≡ true → a ≡ true) → a ≡ b
-  same-test true b f g = sym (f refl)
-  same-test false true f g = g refl
-  same-test false false f g = refl
 
   pub same-short : length u ≢ length t → false ≡ equal t u
   same-short n =

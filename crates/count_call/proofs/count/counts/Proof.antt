@@ -1,6 +1,7 @@
-use mathlib.Core.Path.{sym, _∙_}
-use Rattle.count_call.proofs.Accepted.{accepted-all}
-use Rattle.count_call.proofs.Counting.{tally-long, tally-stopped, tally-refused, tally-done}
+use mathlib.Core.Path.{_≡_, sym, _∙_}
+use Rattle.answer.specs.Answer.{numberOf}
+use Rattle.count_call.proofs.Accepted.{accepted-clear, accepted-depths, accepted-holes, accepted-counts}
+use Rattle.count_call.proofs.Counting.{tally-long, tally-stopped, tally-refused, tally-done, first-same}
 use borrow.Author.Needs.{needs}
 use Rattle.count_call.proofs.count.counts.Statement.{statement}
 use Rattle.count_call.proofs.count.counts.Tie as tie
@@ -12,11 +13,25 @@ sized c = c .before .before .before .before .before .before
 abbrev checked : tie.After-number2 → tie.After-check
 checked c = c .before .before .before .before .before .before .before .before .before
 
-abbrev answered : tie.After-count-all → tie.After-number2
-answered c = c .before .before .before .before
+abbrev done : tie.After-all-depths → tie.Else2
+done c = c .before .before
 
-abbrev counted : tie.After-slice-known12 → tie.After-count-all
-counted c = c .before .before .before .before
+abbrev deepened : tie.After-all-holes → tie.After-all-depths
+deepened c = c .before .before .before .before .before
+
+abbrev end : tie.After-slice-known13 → tie.After-all-holes
+end c = c .before .before .before .before
+
+-- The check's answer is done, and so is that about the lengths.
+module _ (c : tie.Else2) where
+  abbrev asked : tie.After-check
+  asked = checked (c .before)
+
+  sized-done : numberOf (sized asked .before .refusal .result) ≡ 0
+  sized-done = sym (sized asked .number .ensures) ∙ asked .before .before .before .before .before .if1 .left
+
+  checked-done : numberOf (asked .check .result) ≡ 0
+  checked-done = sym (c .before .number2 .ensures) ∙ c .if2 .left
 
 slice-aggregate-refusal : tie.Need-slice-aggregate-refusal
 slice-aggregate-refusal c = search needs
@@ -62,42 +77,50 @@ returns-2 c =
     tally-refused _ _ _ _ _ _ _ (s .before .refusal .ensures) z _ _ (k .check .ensures)
     (λ z. c .if2 .taken (a .number2 .ensures ∙ z))
 
-count-all-requires : tie.Need-count-all-requires
-count-all-requires c κs =
-    let a = c .before .before .before in
-    let k = checked a in
-    let s = sized k in
-    let z = sym (s .number .ensures) ∙ k .before .before .before .before .before .if1 .left in
-    let l = tally-long _ _ _ _ _ (s .before .refusal .ensures) z in
-    accepted-all _ _ _ _ _ _ (k .check .ensures) (sym (a .number2 .ensures) ∙ c .before .before .if2 .left) _ _ (l .0) (l .1 .0)
+all-depths-requires : tie.Need-all-depths-requires
+all-depths-requires c κs =
+    let e = c .before in
+    let k = asked e in
+    let l = tally-long _ _ _ _ _ (sized k .before .refusal .ensures) (sized-done e) in
+    accepted-depths _ _ _ _ _ _ _ _ (k .check .ensures) (checked-done e) _ (l .0)
+
+all-holes-requires : tie.Need-all-holes-requires
+all-holes-requires c κs =
+    let e = c .before .before .before .before .before .before in
+    let k = asked e in
+    let l = tally-long _ _ _ _ _ (sized k .before .refusal .ensures) (sized-done e) in
+    accepted-holes _ _ _ _ _ _ _ _ (k .check .ensures) (checked-done e) _ (l .1 .0)
 
 same-length-5 : tie.Need-same-length-5
-same-length-5 c = counted c .count-all .kept .1 .0
+same-length-5 c = deepened (end c) .all-depths .kept .1 .0
 
 same-length-6 : tie.Need-same-length-6
-same-length-6 c = counted c .count-all .kept .1 .1 .0
+same-length-6 c = end c .all-holes .kept .1 .1 .1 .1 .0
 
 same-length-7 : tie.Need-same-length-7
-same-length-7 c = checked (answered (counted c)) .check .kept .1 .1 .1 .1 .1 .1 .1 .0
+same-length-7 c =
+    let f = end c in
+    f .all-holes .kept .1 .1 .1 .1 .1 .0 ∙ asked (done (deepened f)) .check .kept .1 .1 .1 .1 .1 .1 .1 .0
 
 same-length-8 : tie.Need-same-length-8
-same-length-8 c = checked (answered (counted c)) .check .kept .1 .1 .1 .1 .1 .1 .1 .1 .0
+same-length-8 c = asked (done (deepened (end c))) .check .kept .1 .1 .1 .1 .1 .1 .1 .1 .0
 
 same-length-9 : tie.Need-same-length-9
-same-length-9 c = checked (answered (counted c)) .check .kept .1 .1 .1 .1 .1 .1 .1 .1 .1 .0
+same-length-9 c = asked (done (deepened (end c))) .check .kept .1 .1 .1 .1 .1 .1 .1 .1 .1 .0
 
 same-length-10 : tie.Need-same-length-10
-same-length-10 c = checked (answered (counted c)) .check .kept .1 .1 .1 .1 .1 .1 .1 .1 .1 .1 .0
+same-length-10 c = asked (done (deepened (end c))) .check .kept .1 .1 .1 .1 .1 .1 .1 .1 .1 .1 .0
 
 returns-3 : tie.Need-returns-3
 returns-3 c =
-    let e = counted c in
-    let a = answered e in
-    let k = checked a in
-    let s = sized k in
-    let z = sym (s .number .ensures) ∙ k .before .before .before .before .before .if1 .left in
-    tally-done _ _ _ _ _ _ _ (s .before .refusal .ensures) z _ _ (k .check .ensures)
-    (sym (a .number2 .ensures) ∙ e .before .before .before .if2 .left) _ _ (e .count-all .ensures .0) (e .count-all .ensures .1)
+    let f = end c in
+    let d = deepened f in
+    let e = done d in
+    let k = asked e in
+    let z = checked-done e in
+    tally-done _ _ _ _ _ _ _ (sized k .before .refusal .ensures) (sized-done e) _ _ (k .check .ensures) z _ _
+    (d .all-depths .ensures) (f .all-holes .ensures .0 ∙ accepted-counts _ _ _ _ _ _ _ _ (k .check .ensures) z) _
+    (first-same _ (f .all-holes .ensures .1 ∙ accepted-clear _ _ _ _ _ _ _ _ (k .check .ensures) z))
 
 pub counts-spec : {M : Type 1} → statement M
 counts-spec =
@@ -115,7 +138,8 @@ counts-spec =
     same-length-3
     same-length-4
     returns-2
-    count-all-requires
+    all-depths-requires
+    all-holes-requires
     same-length-5
     same-length-6
     same-length-7

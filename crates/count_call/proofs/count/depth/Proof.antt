@@ -12,7 +12,7 @@ check-requires : tie.Need-check-requires
 check-requires c κs = search needs
 
 depth-after-requires : tie.Need-depth-after-requires
-depth-after-requires c κs = countable _ _ _ _ _ _ (c .before .before .before .before .before .before .before .before .check .ensures)
+depth-after-requires c κs = countable _ _ _ _ _ _ _ _ (c .before .before .before .before .before .before .before .before .check .ensures)
 
 same-length : tie.Need-same-length
 same-length c = checked c .check .kept .1 .1 .1 .1 .1 .1 .1 .0

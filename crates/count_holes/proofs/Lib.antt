@@ -1,0 +1,4 @@
+mod Counting
+pub mod Drawn
+mod Rounding
+mod Sizing
