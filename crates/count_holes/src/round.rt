@@ -10,13 +10,15 @@ ghost use Rattle.point_darts.specs.Dart.{mark, dart};
 ghost use Rattle.count_holes.specs.Round.{roundAt, pieces, Sized};
 
 // The region round the piece of which a point is the least, the mark where it is the least of none. The dart that leads back
-// to the point from the east has that region on its right hand.
+// to the point from the east has that region on its right hand. Its side is read either way and the mark chosen last, since
+// which points are least is hard to foresee.
 fn round_at(side: &[u16], tops: &[u16], p: u16) -> u16
     requires { ⌜ (dart (p + 1) 3 < length (now side)) × (length (now side) < mark) × (p < length (now tops)) ⌝ }
     ensures { λ r. ⌜ r ≡ roundAt (now (side .entry)) (now (tops .entry)) p ⌝ }
 {
+    let round = side[dart::first_slot(p + 1) + Dart::WEST as usize];
     if tops[p as usize] == p {
-        side[dart::first_slot(p + 1) + Dart::WEST as usize]
+        round
     } else {
         dart::MARK
     }
@@ -32,10 +34,9 @@ pub fn pieces_of(side: &[u16], tops: &[u16], name: u16) -> u16
     let mut p: u16 = 0;
     while p < last {
         let round = round_at(side, tops, p);
+        let one: u16 = if round == name { 1 } else { 0 };
+        count += one;
         p += 1;
-        if round == name {
-            count += 1;
-        }
     }
     count
 }

@@ -31,7 +31,7 @@ module _ (f : ℕ → ℕ) (stop : ℕ → Bool) (P : ℕ → Type 0) (stays : (
       go true e r = rw (run-stop f stop (suc n) d e) p
       go false e r = rw (run-go f stop n d e) r
 
-pub run-ahead : (f : ℕ → ℕ) (stop : ℕ → Bool) (n d : ℕ) → (k : ℕ) × (times f k d ≡ run f stop n d)
+run-ahead : (f : ℕ → ℕ) (stop : ℕ → Bool) (n d : ℕ) → (k : ℕ) × (times f k d ≡ run f stop n d)
 run-ahead f stop n d =
     run-stays f stop (λ e. (k : ℕ) × (times f k d ≡ e)) (λ x (k, q). (suc k, times-suc f k d ∙ ap f q)) n d
     (0, times-none f d)

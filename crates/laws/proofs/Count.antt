@@ -76,7 +76,7 @@ module _ (f : ℕ → Bool) (k : ℕ) (pass : f k ≡ true) where
   but-other : (i : ℕ) → i ≢ k → but i ≡ f i
   but-other i e = rw (ne-eqb i k e) (and-true (f i))
 
-  pub count-less : (n : ℕ) → k < n → count n f ≡ suc (count n (λ i. f i && not (eqb i k)))
+  count-less : (n : ℕ) → k < n → count n f ≡ suc (count n (λ i. f i && not (eqb i k)))
   unfolding count
   count-less zero b = absurd (not-suc-le-zero b)
   count-less (suc n) b = ⊎-elim here (λ l. below l (count-less n l)) (below-suc n k b)

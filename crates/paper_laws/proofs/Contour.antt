@@ -129,7 +129,7 @@ module _ (w h : ℕ) (s : List ℕ) where
   step = next w (border w h (names w h s))
 
   -- two darts of one piece with one region on their right hand are of one contour
-  pub same-contour : (a d : ℕ) → border w h (names w h s) a ≡ true → border w h (names w h s) d ≡ true
+  same-contour : (a d : ℕ) → border w h (names w h s) a ≡ true → border w h (names w h s) d ≡ true
       → top w h (border w h (names w h s)) (point d) ≡ top w h (border w h (names w h s)) (point a)
       → side w h (names w h s) d ≡ side w h (names w h s) a
       → (k : ℕ) × (times (next w (border w h (names w h s))) k d ≡ a)

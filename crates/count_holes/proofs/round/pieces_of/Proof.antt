@@ -1,4 +1,5 @@
 use mathlib.Core.Path.{_≡_}
+use mathlib.Core.Logic.{⊎-elim}
 use Prim.Native.Nat.{_-_, _≤_}
 use native.Mathlib.Omega.{arith}
 use Rattle.laws.specs.Table.{count}
@@ -17,6 +18,10 @@ abbrev μ-loop : tie.MeasureT-loop
 abbrev start : tie.At-loop Inv-loop μ-loop → tie.Start Inv-loop μ-loop
 start c = c .before .before .before
 
+-- And from the end of a round to the loop.
+abbrev at-loop : tie.After-row-known Inv-loop μ-loop → tie.At-loop Inv-loop μ-loop
+at-loop c = c .before .before .before .before
+
 sub-last : tie.Need-sub-last Inv-loop μ-loop
 sub-last c = omega (arith, c .before .before .pre .0 .some)
 
@@ -33,33 +38,32 @@ round-at-requires c κs =
     let z = start (c .before) .pre .0 in
     (omega (arith, z .four), z .fits, omega arith)
 
-add-p : tie.Need-add-p Inv-loop μ-loop
-unfolding mark
-add-p c = let z = start (c .before .before) .pre .0 in omega (arith, z .four, z .fits)
-
 add-count : tie.Need-add-count Inv-loop μ-loop
 unfolding mark
 add-count c =
-    let l = c .before .before .before in
-    let q = start l in
-    let z = q .pre .0 in
-    omega (arith, rounded-le (q .args .side .now) (q .args .tops .now) (q .args .name) (l .loop .p), z .four, z .fits)
+    let l = at-loop c in
+    let a = start l .args in
+    let z = start l .pre .0 in
+    let b = rounded-le (a .side .now) (a .tops .now) (a .name) (l .loop .p) in
+    ⊎-elim (λ i. omega (arith, b, z .four, z .fits, i .1)) (λ i. omega (arith, b, z .four, z .fits, i .1)) (c .before .if1 .came)
+
+add-p : tie.Need-add-p Inv-loop μ-loop
+unfolding mark
+add-p c = let z = start (at-loop c) .pre .0 in omega (arith, z .four, z .fits)
 
 loop-less : tie.Need-loop-less Inv-loop μ-loop
 loop-less c = omega arith
 
 loop-again : tie.Need-loop-again Inv-loop μ-loop
 loop-again c =
-    let l = c .before in
-    (rounded-more _ _ _ _ _ _ (l .before .before .loop .inv .0) (l .round-at .ensures) (c .if1 .taken), omega arith)
-
-loop-less-2 : tie.Need-loop-less-2 Inv-loop μ-loop
-loop-less-2 c = omega arith
-
-loop-again-2 : tie.Need-loop-again-2 Inv-loop μ-loop
-loop-again-2 c =
-    let l = c .before in
-    (rounded-same _ _ _ _ _ _ (l .before .before .loop .inv .0) (l .round-at .ensures) (c .if1 .left), omega arith)
+    let l = at-loop c in
+    let r = c .before .before in
+    let n = l .loop .inv .0 in (
+      ⊎-elim (λ i. omega (arith, rounded-more _ _ _ _ _ _ n (r .round-at .ensures) (i .0 .taken), i .1))
+          (λ i. omega (arith, rounded-same _ _ _ _ _ _ n (r .round-at .ensures) (i .0 .left), i .1))
+          (c .before .if1 .came),
+      omega arith,
+    )
 
 returns : tie.Need-returns Inv-loop μ-loop
 returns c =
@@ -77,10 +81,8 @@ pieces-of-spec =
     cast-last
     loop-holds
     round-at-requires
-    add-p
     add-count
+    add-p
     loop-less
     loop-again
-    loop-less-2
-    loop-again-2
     returns)

@@ -11,11 +11,32 @@ use Rattle.count_holes.proofs.round.round_at.Tie as tie
 -- The slot of the dart that leads back is in the table.
 module _ (f : tie.After-first-slot) where
   abbrev start : tie.Start
-  start = f .before .before .before .before .before
+  start = f .before .before .before
 
   back-in : f .first-slot .result + 2 < length (now (start .args .side))
   unfolding dart
   back-in = omega (arith, f .first-slot .ensures, start .pre .0)
+
+add-first-slot : tie.Need-add-first-slot
+unfolding mark dart
+add-first-slot c = omega (arith, c .before .before .pre .0)
+
+first-slot-requires : tie.Need-first-slot-requires
+first-slot-requires c κs = search needs
+
+cast-round : tie.Need-cast-round
+cast-round c = search needs
+
+add-round : tie.Need-add-round
+unfolding mark
+add-round c = omega (arith, back-in c, start c .pre .1)
+
+mul-round : tie.Need-mul-round
+unfolding mark
+mul-round c = omega (arith, back-in c, start c .pre .1)
+
+shared-slice-read-round : tie.Need-shared-slice-read-round
+shared-slice-read-round c = omega (arith, back-in (c .before))
 
 mul-if1 : tie.Need-mul-if1
 mul-if1 c = search needs
@@ -23,31 +44,10 @@ mul-if1 c = search needs
 shared-slice-read-if1 : tie.Need-shared-slice-read-if1
 shared-slice-read-if1 c = search needs
 
-add-first-slot : tie.Need-add-first-slot
-unfolding mark dart
-add-first-slot c = omega (arith, c .before .before .before .before .pre .0)
-
-first-slot-requires : tie.Need-first-slot-requires
-first-slot-requires c κs = search needs
-
-cast-result : tie.Need-cast-result
-cast-result c = search needs
-
-add-result : tie.Need-add-result
-unfolding mark
-add-result c = omega (arith, back-in c, start c .pre .1)
-
-mul-result : tie.Need-mul-result
-unfolding mark
-mul-result c = omega (arith, back-in c, start c .pre .1)
-
-shared-slice-read-result : tie.Need-shared-slice-read-result
-shared-slice-read-result c = omega (arith, back-in (c .before))
-
 returns : tie.Need-returns
 returns c =
-    let f = c .before in
-    round-own _ _ _ (f .before .if1 .taken) _ (f .first-slot .ensures) (back-in f)
+    let f = c .before .before .before in
+    round-own _ _ _ (c .if1 .taken) _ (f .first-slot .ensures) (back-in f)
 
 returns-2 : tie.Need-returns-2
 unfolding mark
@@ -57,13 +57,13 @@ pub round-at-spec : {M : Type 1} → statement M
 round-at-spec =
     tie.close
     (tie.spec
-    mul-if1
-    shared-slice-read-if1
     add-first-slot
     first-slot-requires
-    cast-result
-    add-result
-    mul-result
-    shared-slice-read-result
+    cast-round
+    add-round
+    mul-round
+    shared-slice-read-round
+    mul-if1
+    shared-slice-read-if1
     returns
     returns-2)
