@@ -149,9 +149,10 @@ uint16_t raimenolta_depth(
     uint16_t *work_d, size_t work_d_length);
 
 /*
- * The holes of a region, or of the outside for the name 0: how many different pieces are the outer pieces of the regions
- * whose parent it is. A hole is one however many regions fill it, and the outside has one. Reads the five tables
- * (RAIMENOLTA_SLOTS each, parent RAIMENOLTA_NAMES), writes the one number at holes. Refusals 1, 4, 5, 8.
+ * The holes of a region, or of the outside for the name 0: how many different pieces of border, lines joined through
+ * points, are the outer pieces of the regions whose parent it is. However many regions fill a hole, it is one; the outside
+ * has one. Reads the five tables (RAIMENOLTA_SLOTS each, parent RAIMENOLTA_NAMES), writes the one number at holes.
+ * Refusals 1, 4, 5, 8.
  */
 uint16_t raimenolta_holes(
     uint16_t width, uint16_t height,

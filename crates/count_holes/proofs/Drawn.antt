@@ -4,13 +4,12 @@
 --   pieces s t r    == how many pieces the region r lies round, by the sides s and the tops t
 --   holes w h on p r == how many different pieces are the outer pieces of the regions whose parent is r
 use mathlib.Core.Path.{_≡_, refl, sym, ap, _∙_, fun-ext}
-use mathlib.Core.Bool.{Bool, true, false, cond, _&&_, and-false}
+use mathlib.Core.Bool.{Bool, true, false, cond, _&&_}
 use mathlib.Core.List.{List}
 use Prim.Native.Nat.{ℕ, _+_, _-_, _≤_, _<_}
 use native.Mathlib.Omega.{arith}
 use lib.Dec.{eqb, lit<}
 use borrow.Author.Tests.{ne-eqb}
-use Rattle.laws.specs.Table.{count}
 use Rattle.laws.proofs.Test.{same-test}
 use Rattle.laws.proofs.Table.{count-agree}
 use Rattle.sheet_size.specs.Size.{within}

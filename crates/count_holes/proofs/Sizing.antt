@@ -1,5 +1,5 @@
 -- Tables of a sheet's size have four sides for each of the tops.
-use mathlib.Core.Path.{_≡_, _∙_}
+use mathlib.Core.Path.{_≡_}
 use mathlib.Core.Bool.{true}
 use mathlib.Core.List.{List}
 use Prim.Native.Nat.{ℕ, zero-le}

@@ -6,13 +6,20 @@
 --   Even v l        == of the four lines at each place an even number are of the set, and none runs west from column 0
 --   crossed v x y   == west of the cell in column x and row y, in its row, is an odd number of lines of the set
 use mathlib.Core.Path.{_≡_, refl, sym, ap, _∙_}
-use mathlib.Core.Bool.{Bool, true, false, Bool·not-not}
+use mathlib.Core.Bool.{Bool, true, false, not, Bool·not-not}
 use Prim.Native.Nat.{ℕ, zero, suc, _<_}
 use native.Mathlib.Nat.{le-refl}
 use native.Mathlib.Omega.{arith}
-use Rattle.laws.proofs.Parity.{odd, odd-false}
 
 -- Exactly one of two.
+abbrev pub odd : Bool → Bool → Bool
+odd true b = not b
+odd false b = b
+
+pub odd-false : (b : Bool) → odd b false ≡ b
+odd-false true = refl
+odd-false false = refl
+
 pub odd-comm : (a b : Bool) → odd a b ≡ odd b a
 odd-comm true true = refl
 odd-comm true false = refl
@@ -43,6 +50,16 @@ odd-cross a b c d e =
 
 odd-none : (a b : Bool) → odd a b ≡ false → a ≡ b
 odd-none a b e = sym (odd-twice b a) ∙ rw (odd-comm b a, e) (odd-false b)
+
+odd-same : (a : Bool) → odd a a ≡ false
+odd-same true = refl
+odd-same false = refl
+
+-- four may be paired as one likes
+pub odd-pairs : (a b c d : Bool) → odd (odd (odd a b) (odd c d)) (odd (odd a c) (odd b d)) ≡ false
+odd-pairs a b c d =
+    let middle = sym (odd-assoc b c d) ∙ ap (λ x. odd x d) (odd-comm b c) ∙ odd-assoc c b d in
+    rw (odd-assoc a b (odd c d) ∙ ap (odd a) middle ∙ sym (odd-assoc a c (odd b d))) (odd-same (odd (odd a c) (odd b d)))
 
 pub record Even (v l : ℕ → ℕ → Bool) : Type 0 where
   pub west : (y : ℕ) → l 0 y ≡ false

@@ -6,21 +6,25 @@
 --   odd a b         == exactly one of a and b
 --   Edged w h e t   == off the sheet no two cells beside each other differ; and on it, where two differ, the two ends
 --                      of the line between them are both of the piece or both not
---   inside e t x y  == west of the cell, in its row, is an odd number of lines of the piece between a cell of the
+--   northward, westward == the line that runs north, or west, from the place is of the piece and lies between a cell of the
 --                      region and one that is not
+--   Even v l        == of the four lines at each place an even number are of the set, and none runs west from column 0
+--   crossed v x y   == west of the cell in column x and row y, in its row, is an odd number of lines of the set
+--   inside e t x y  == west of the cell, in its row, is an odd number of such lines
 --   Touch x y u v   == the cell in column u and row v is one of the four round the place in column x and row y
 --   Joined m p q    == a chain of lines of the map m leads from p to q
 --   Found e x m     == from x to m some number passes the test e
 --   Flanked m P x   == before x a number has P, and after it one up to m + 1
 --   Amid w h P x y  == in the row of the cell, and in its column, cells before and after it have P
 use mathlib.Core.Path.{_≡_, refl, sym, ap, _∙_}
-use mathlib.Core.Bool.{Bool, true, false, not, _&&_, true≢false, false≢true, and-false, Bool·not-not}
+use mathlib.Core.Bool.{Bool, true, false, _&&_, true≢false, false≢true, and-false, Bool·not-not}
 use mathlib.Core.Logic.{_≢_}
 use Prim.Native.Nat.{ℕ, zero, suc, _<_, _≤_, zero-le}
 use native.Mathlib.Nat.{le-refl}
 use native.Mathlib.Decide.{decLe}
 use native.Mathlib.Omega.{arith}
 use Rattle.laws.proofs.Test.{clash}
+use Rattle.laws.proofs.Even.{odd, odd-false, odd-pairs, Even, crossed, crossed-west, crossed-east, crossed-start, crossed-down}
 use Rattle.laws.proofs.Chart.{Map}
 use Rattle.laws.proofs.Curve.{Joined, alone, line, back, onward}
 
@@ -31,14 +35,6 @@ joined-same g f alone = refl
 joined-same g f (line d h) = f d h
 joined-same g f (back j) = sym (joined-same g f j)
 joined-same g f (onward i j) = joined-same g f i ∙ joined-same g f j
-
-abbrev pub odd : Bool → Bool → Bool
-odd true b = not b
-odd false b = b
-
-pub odd-false : (b : Bool) → odd b false ≡ b
-odd-false true = refl
-odd-false false = refl
 
 -- from a to b and on to c is from a to c
 odd-past : (f t a b c : Bool) → odd (odd f (t && odd a b)) (t && odd b c) ≡ odd f (t && odd a c)
@@ -77,9 +73,14 @@ pub record Edged (w h : ℕ) (e t : ℕ → ℕ → Bool) : Type 0 where
   pub upright : (x y : ℕ) → e x (suc y) ≢ e (suc x) (suc y) → t x y ≡ t x (suc y)
   pub level : (x y : ℕ) → e (suc x) y ≢ e (suc x) (suc y) → t x y ≡ t (suc x) y
 
-unfoldable pub inside : (ℕ → ℕ → Bool) → (ℕ → ℕ → Bool) → ℕ → ℕ → Bool
-inside e t zero y = false
-inside e t (suc x) y = odd (inside e t x y) (t x y && odd (e x y) (e (suc x) y))
+abbrev northward : (ℕ → ℕ → Bool) → (ℕ → ℕ → Bool) → ℕ → ℕ → Bool
+northward e t x y = t x y && odd (e x y) (e (suc x) y)
+
+abbrev westward : (ℕ → ℕ → Bool) → (ℕ → ℕ → Bool) → ℕ → ℕ → Bool
+westward e t x y = t x y && odd (e x y) (e x (suc y))
+
+abbrev pub inside : (ℕ → ℕ → Bool) → (ℕ → ℕ → Bool) → ℕ → ℕ → Bool
+inside e t = crossed (northward e t)
 
 pub data Touch (x y : ℕ) : ℕ → ℕ → Type 0 where
   north-west : Touch x y x y
@@ -90,18 +91,14 @@ pub data Touch (x y : ℕ) : ℕ → ℕ → Type 0 where
 -- A row, from its west end.
 module _ (e t : ℕ → ℕ → Bool) where
   inside-step : (x y : ℕ) → inside e t (suc x) y ≡ odd (inside e t x y) (t x y && odd (e x y) (e (suc x) y))
-  unfolding inside
-  inside-step x y = refl
+  inside-step = crossed-east (northward e t)
 
   pub inside-west : (y : ℕ) → inside e t 0 y ≡ false
-  unfolding inside
-  inside-west y = refl
+  inside-west = crossed-west (northward e t)
 
   -- as far as no place is of the piece, no cell lies inside
   pub inside-start : (x y : ℕ) → ((k : ℕ) → k < x → t k y ≡ false) → inside e t x y ≡ false
-  inside-start zero y f = inside-west y
-  inside-start (suc x) y f =
-      inside-step x y ∙ rw (inside-start x y (λ k l. f k (omega arith)), f x (le-refl (suc x)))
+  inside-start x y f = crossed-start (northward e t) x y (λ k l. rw (f k l))
 
   -- past a place that is not of the piece
   still-east : (x y : ℕ) → t x y ≡ false → inside e t (suc x) y ≡ inside e t x y
@@ -181,26 +178,30 @@ module _ {w h : ℕ} {e t : ℕ → ℕ → Bool} (g : Edged w h e t) where
   abbrev inner : ℕ → ℕ → Bool
   inner = inside e t
 
-  -- one row down a line is crossed as one is from column to column
+  -- at each place an even number of these lines meet
+  edged-even : Even (northward e t) (westward e t)
+  edged-even =
+      record {
+        west = λ y. odd-keeps false (t 0 y) (e 0 y) (e 0 (suc y)) (g .west y);
+        even = λ x y.
+            let a = e x y in
+            let b = e (suc x) y in
+            let c = e x (suc y) in
+            let d = e (suc x) (suc y) in
+            rw (
+              ← odd-at (t x y) (t x (suc y)) c d (g .upright x y),
+              ← odd-at (t x y) (t (suc x) y) b d (g .level x y),
+            ) (pairs (t x y) a b c d);
+      }
+    where
+      pairs : (s a b c d : Bool)
+          → odd (odd (s && odd a b) (s && odd c d)) (odd (s && odd a c) (s && odd b d)) ≡ false
+      pairs true a b c d = odd-pairs a b c d
+      pairs false a b c d = refl
+
+  -- so one row down a line is crossed as one is from column to column
   inside-down : (x y : ℕ) → inner x (suc y) ≡ odd (inner x y) (t x y && odd (e x y) (e x (suc y)))
-  inside-down zero y =
-      inside-west e t (suc y)
-      ∙ sym (odd-keeps (inner 0 y) (t 0 y) (e 0 y) (e 0 (suc y)) (g .west y) ∙ inside-west e t y)
-  inside-down (suc x) y =
-      let a = e x y in
-      let b = e (suc x) y in
-      let c = e x (suc y) in
-      let d = e (suc x) (suc y) in
-      let s = t x y in
-      inside-step e t x (suc y)
-      ∙ rw (
-        inside-down x y,
-        ← odd-at s (t x (suc y)) c d (g .upright x y),
-        odd-past (inner x y) s a c d,
-        inside-step e t x y,
-        ← odd-at s (t (suc x) y) b d (g .level x y),
-        odd-past (inner x y) s a b d,
-      )
+  inside-down = crossed-down edged-even
 
   pub inside-south : (x y : ℕ) → e x y ≡ e x (suc y) → inner x (suc y) ≡ inner x y
   inside-south x y q = inside-down x y ∙ odd-keeps (inner x y) (t x y) (e x y) (e x (suc y)) q

@@ -20,8 +20,8 @@ use lib.ListN.{getD}
 use borrow.Author.Tests.{eq-eqb, not-true}
 use Rattle.laws.specs.Run.{run}
 use Rattle.laws.proofs.Test.{and-under, same-test}
-use Rattle.laws.proofs.Parity.{odd, odd-false, joined-same}
-use Rattle.laws.proofs.Even.{odd-comm, odd-twice, odd-once, odd-cross, Even}
+use Rattle.laws.proofs.Parity.{joined-same}
+use Rattle.laws.proofs.Even.{odd, odd-false, odd-comm, odd-twice, odd-once, odd-cross, Even}
 use Rattle.laws.proofs.Even.{crossed, crossed-west, crossed-east, crossed-start, crossed-down}
 use Rattle.laws.proofs.Contour.{run-stays}
 use Rattle.point_darts.specs.Dart.{dart, point, direction, reversal, line}

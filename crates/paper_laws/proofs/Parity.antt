@@ -20,7 +20,8 @@ use native.Mathlib.Omega.{arith}
 use lib.Dec.{eqb, lit<}
 use borrow.Author.Tests.{eq-eqb, ne-eqb, not-true}
 use Rattle.laws.proofs.Test.{clash}
-use Rattle.laws.proofs.Parity.{joined-same, odd, odd-false, Edged, inside, inside-start, inside-east, inside-south}
+use Rattle.laws.proofs.Even.{odd, odd-false}
+use Rattle.laws.proofs.Parity.{joined-same, Edged, inside, inside-start, inside-east, inside-south}
 use Rattle.laws.proofs.Parity.{Touch, north-east, south-west, south-east, still-touch, round-touch}
 use Rattle.point_darts.specs.Dart.{dart, point, reversal, line}
 use Rattle.point_darts.proofs.Darts.{place, point-dart, column, row, place-own, every-line}

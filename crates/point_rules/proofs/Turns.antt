@@ -16,7 +16,7 @@ use lib.Dec.{eqb, ltb, leb, lit<}
 use borrow.Author.Tests.{eqb-true, ltb-true, eq-eqb, ne-eqb, le-leb}
 use Rattle.laws.specs.Run.{run}
 use Rattle.laws.proofs.Test.{and-under}
-use Rattle.laws.proofs.Parity.{odd}
+use Rattle.laws.proofs.Even.{odd}
 use Rattle.point_darts.specs.Dart.{turned}
 use Rattle.point_darts.specs.Point.{bits, half, has, right, parts, present, degree, inline}
 use Rattle.point_rules.specs.Turn.{turn, without}
