@@ -3,18 +3,18 @@
 --   pieceIn w h n r p == p is the least point of a piece that the region r lies round, by the names n
 --   pieces s t r    == how many pieces the region r lies round, by the sides s and the tops t
 --   holes w h on p r == how many different pieces are the outer pieces of the regions whose parent is r
-use mathlib.Core.Path.{_≡_, refl, sym, ap, _∙_, fun-ext}
+use mathlib.Core.Path.{_≡_, refl, sym, _∙_, fun-ext}
 use mathlib.Core.Bool.{Bool, true, false, cond, _&&_}
 use mathlib.Core.List.{List}
-use Prim.Native.Nat.{ℕ, _+_, _-_, _≤_, _<_}
+use Prim.Native.Nat.{ℕ, _+_, _≤_, _<_}
 use native.Mathlib.Omega.{arith}
-use lib.Dec.{eqb, lit<}
+use lib.Dec.{eqb}
 use borrow.Author.Tests.{ne-eqb}
 use Rattle.laws.proofs.Test.{same-test}
 use Rattle.laws.proofs.Table.{count-agree}
 use Rattle.sheet_size.specs.Size.{within}
-use Rattle.point_darts.specs.Dart.{mark, points, slots, dart, beside, turned, reversal}
-use Rattle.point_darts.proofs.Darts.{reversal-dart}
+use Rattle.point_darts.specs.Dart.{mark, points, slots, dart, reversal}
+use Rattle.point_darts.proofs.Darts.{east-back, west-back}
 use Rattle.paper.specs.Name.{names}
 use Rattle.paper.specs.Level.{side, border, plain, tops, level, marked}
 use Rattle.paper.specs.Enclosure.{holes}
@@ -28,15 +28,6 @@ use Rattle.paper_laws.proofs.Enclosure.{parentage}
 use Rattle.paper_laws.proofs.IsDrawing.{is-drawing-drawn}
 use Rattle.paper_laws.proofs.Hole.{pieceIn, holes-pieces}
 use Rattle.count_holes.specs.Round.{roundAt, pieces}
-
--- the dart east and the dart that leads back from it
-east-back : (w p : ℕ) → reversal w (dart p 0) ≡ dart (p + 1) 2
-unfolding beside turned
-east-back w p = reversal-dart w p 0 (lit< tt)
-
-west-back : (w p : ℕ) → reversal w (dart (p + 1) 2) ≡ dart p 0
-unfolding beside turned
-west-back w p = reversal-dart w (p + 1) 2 (lit< tt) ∙ ap (λ q. dart q 0) (let e : p + 1 - 1 ≡ p = omega arith in e)
 
 module _ (w h : ℕ) (s : List ℕ) (small : slots w h ≤ mark) where
   abbrev n : List ℕ

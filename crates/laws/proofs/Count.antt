@@ -28,14 +28,14 @@ count-none zero = refl
 count-none (suc n) = rw (count-none n)
 
 -- no more pass than there are
-number-le : (b : Bool) → number b ≤ 1
-number-le true = omega arith
-number-le false = omega arith
+pub number-below : (b : Bool) → number b ≤ 1
+number-below true = omega arith
+number-below false = omega arith
 
 pub count-le : (f : ℕ → Bool) (n : ℕ) → count n f ≤ n
 unfolding count
 count-le f zero = zero-le
-count-le f (suc n) = let l = count-le f n in let m = number-le (f n) in omega arith
+count-le f (suc n) = let l = count-le f n in let m = number-below (f n) in omega arith
 
 pub count-add : (f : ℕ → Bool) (m n : ℕ) → count (m + n) f ≡ count m f + count n (λ i. f (m + i))
 unfolding count

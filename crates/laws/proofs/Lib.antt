@@ -1,9 +1,9 @@
+pub mod Ahead
 pub mod Alike
 pub mod Anchor
 pub mod Cases
 pub mod Chart
 pub mod Column
-pub mod Contour
 pub mod Count
 pub mod Curve
 pub mod Equal

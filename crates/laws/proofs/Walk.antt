@@ -42,6 +42,17 @@ module _ (f : ℕ → ℕ) (stop : ℕ → Bool) where
   unfolding run
   run-go n d h = rw (h, run)
 
+-- what goes from dart to dart holds at the end of a run
+module _ (f : ℕ → ℕ) (stop : ℕ → Bool) (P : ℕ → Type 0) (stays : (x : ℕ) → P x → P (f x)) where
+  pub run-stays : (n d : ℕ) → P d → P (run f stop n d)
+  unfolding run
+  run-stays zero d p = p
+  run-stays (suc n) d p = go (stop d) refl (run-stays n (f d) (stays d p))
+    where
+      go : (b : Bool) → stop d ≡ b → P (run f stop n (f d)) → P (run f stop (suc n) d)
+      go true e r = rw (run-stop f stop (suc n) d e) p
+      go false e r = rw (run-go f stop n d e) r
+
 -- a run that has stopped goes no further
 module _ (f : ℕ → ℕ) (s : ℕ → Bool) where
   run-more-at : (b : Bool) (c a d : ℕ) → s d ≡ b

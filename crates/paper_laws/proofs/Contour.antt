@@ -25,8 +25,8 @@ use Rattle.laws.proofs.Count.{count-matched}
 use Rattle.laws.proofs.Chart.{Turns, times}
 use Rattle.laws.proofs.Orbit.{times-add, orbit-on}
 use Rattle.laws.proofs.Meet.{times-none, orbit-side}
-use Rattle.laws.proofs.Contour.{holds, holds-ahead, ahead-holds, holds-keeps}
-use Rattle.laws.proofs.Contour.{lowest, lowest-ahead, lowest-least, least-ahead, ahead-least}
+use Rattle.laws.proofs.Ahead.{holds, holds-ahead, ahead-holds, holds-keeps}
+use Rattle.laws.proofs.Ahead.{lowest, lowest-ahead, lowest-least, least-ahead, ahead-least}
 use Rattle.point_darts.specs.Dart.{mark, points, slots, dart, point, reversal}
 use Rattle.point_darts.specs.Point.{corner}
 use Rattle.point_darts.proofs.Darts.{point-dart}
@@ -37,9 +37,9 @@ use Rattle.paper.specs.Contour.{reached, contour, outermost, innerContours}
 use Rattle.paper_laws.proofs.Next.{lines-turns}
 use Rattle.paper_laws.proofs.First.{top-side-name, top-side-on, top-side-own}
 use Rattle.paper_laws.proofs.Sheet.{sheet, sheet-chart, border-lines, border-back}
-use Rattle.paper_laws.proofs.Kept.{top, mask-some, mask-point, sheet-tops}
+use Rattle.paper_laws.proofs.Kept.{top, mask-point, sheet-tops}
 use Rattle.paper_laws.proofs.Curve.{met-top}
-use Rattle.paper_laws.proofs.Enclosure.{Head, head-top, head-east, head-side, round, round-below, side-below}
+use Rattle.paper_laws.proofs.Enclosure.{Head, line-head, head-east, head-side, round, round-below, side-below}
 use Rattle.paper_laws.proofs.Enclosure.{parentage}
 use Rattle.paper_laws.proofs.Hole.{holes-pieces, pieceIn, piece-head, piece-round, head-piece}
 use Rattle.paper_laws.proofs.Outer.{round-or-outer}
@@ -197,8 +197,7 @@ module _ (w h : ℕ) (s : List ℕ) where
     p = head w h l d
 
     inner-head : Head w h (border w h l) p
-    inner-head =
-        head-top w h (border w h l) (border-lines w h l) (point d) (mask-some (border w h l) d (point d) (i .lined) refl)
+    inner-head = line-head w h l d (i .lined)
 
     -- it is not the outermost contour of r
     not-outer : (c : ℕ) × (side w h l d ≡ suc c) × (c < w * h) × (getD l c 0 ≡ suc c) × (head w h l (topSide w c) ≡ p) → ⊥

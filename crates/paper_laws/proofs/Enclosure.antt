@@ -71,6 +71,12 @@ module _ (w h : ℕ) (on : ℕ → Bool) (l : Lines w h on) where
         head-no 3 (t - (w + 1))
         λ e. let i = lines-inside w h on l .north-in t head-point e in (omega arith, tops-north w h on t head-point e)
 
+-- the least point of the piece of a line of the sheet
+pub line-head : (w h : ℕ) (n : List ℕ) (d : ℕ) → border w h n d ≡ true
+    → Head w h (border w h n) (top w h (border w h n) (point d))
+line-head w h n d o =
+    head-top w h (border w h n) (border-lines w h n) (point d) (mask-some (border w h n) d (point d) o refl)
+
 -- where west and north are absent, and not exactly one line is present, east and south are both present
 module _ (on : ℕ → Bool) (t : ℕ) (some : mask on t ≢ 0) (one : degree (mask on t) ≢ 1)
     (west : on (dart t 2) ≡ false) (north : on (dart t 3) ≡ false) where

@@ -2,7 +2,7 @@
 --   odd a b         == exactly one of a and b
 --   Steady w h n t  == next keeps the test t
 --   split w h n t d == d is on, and of d and its reversal exactly one passes the test t
---   upright, level  == the line that runs north, or west, from a place is split
+--   northward, westward  == the line that runs north, or west, from a place is split
 --   Even v l        == of the four lines at each place an even number are of the set, and none runs west from column 0
 --   crossed v x y   == west of the cell in column x and row y, in its row, is an odd number of lines of the set
 --   colour r        == the lines that are split and west of the first cell of the region r are odd in number
@@ -23,7 +23,7 @@ use Rattle.laws.proofs.Test.{and-under, same-test}
 use Rattle.laws.proofs.Parity.{joined-same}
 use Rattle.laws.proofs.Even.{odd, odd-false, odd-comm, odd-twice, odd-once, odd-cross, Even}
 use Rattle.laws.proofs.Even.{crossed, crossed-west, crossed-east, crossed-start, crossed-down}
-use Rattle.laws.proofs.Contour.{run-stays}
+use Rattle.laws.proofs.Walk.{run-stays}
 use Rattle.point_darts.specs.Dart.{dart, point, direction, reversal, line}
 use Rattle.point_darts.specs.Point.{has}
 use Rattle.point_darts.proofs.Darts.{place, point-dart, direction-dart, dart-own, direction-below, every-line}
@@ -70,18 +70,18 @@ module _ (w h : ℕ) (n : List ℕ) (t : ℕ → Bool) where
   split-none d e =
       rw (border-sides w h n d ∙ ap not (eq-eqb (side w h n d) (across w h n d) e))
 
-  abbrev upright : ℕ → ℕ → Bool
-  upright x y = split w h n t (dart (place w x y) 3)
+  abbrev northward : ℕ → ℕ → Bool
+  northward x y = split w h n t (dart (place w x y) 3)
 
-  abbrev level : ℕ → ℕ → Bool
-  level x y = split w h n t (dart (place w x y) 2)
+  abbrev westward : ℕ → ℕ → Bool
+  westward x y = split w h n t (dart (place w x y) 2)
 
-  upright-south : (x y : ℕ) → upright x (suc y) ≡ split w h n t (dart (place w x y) 1)
-  upright-south x y =
+  northward-south : (x y : ℕ) → northward x (suc y) ≡ split w h n t (dart (place w x y) 1)
+  northward-south x y =
       split-back (dart (place w x (suc y)) 3) (dart (place w x y) 1) (reversal-north w x y) (reversal-south w x y)
 
-  level-east : (x y : ℕ) → level (suc x) y ≡ split w h n t (dart (place w x y) 0)
-  level-east x y =
+  westward-east : (x y : ℕ) → westward (suc x) y ≡ split w h n t (dart (place w x y) 0)
+  westward-east x y =
       split-back (dart (place w (suc x) y) 2) (dart (place w x y) 0) (reversal-west w x y) (reversal-east w x y)
 
 -- A test that next keeps.
@@ -111,21 +111,21 @@ module _ (w h : ℕ) (n : List ℕ) (t : ℕ → Bool) (k : Steady w h n t) wher
       rw (split-turn p 0 (lit< tt), split-turn p 1 (lit< tt), split-turn p 2 (lit< tt), split-turn p 3 (lit< tt))
       (around-even (m p) (mask-below (border w h n) p) (λ j. t (dart p j)))
 
-  lines-even : Even (upright w h n t) (level w h n t)
+  lines-even : Even (northward w h n t) (westward w h n t)
   lines-even =
       record {
         west = λ y. split-none w h n t (dart (place w 0 y) 2)
             (side-west w h n 0 y zero-le ∙ named-west w h n y ∙ sym (across-west w h n 0 y zero-le ∙ named-west w h n (suc y)));
-        even = λ x y. rw (upright-south w h n t x y, level-east w h n t x y) (not-true _ (split-even (place w x y)));
+        even = λ x y. rw (northward-south w h n t x y, westward-east w h n t x y) (not-true _ (split-even (place w x y)));
       }
 
   abbrev c : ℕ → ℕ → Bool
-  c = crossed (upright w h n t)
+  c = crossed (northward w h n t)
 
   -- cells of one name beside each other
   same-east : (x y : ℕ) → x ≤ w → named w h n x y ≡ named w h n (suc x) y → c (suc x) y ≡ c x y
   same-east x y l e =
-      crossed-east (upright w h n t) x y
+      crossed-east (northward w h n t) x y
       ∙ rw (split-none w h n t (dart (place w x y) 3) (side-north w h n x y l ∙ sym e ∙ sym (across-north w h n x y l)))
       (odd-false (c x y))
 
@@ -138,7 +138,7 @@ module _ (w h : ℕ) (n : List ℕ) (t : ℕ → Bool) (k : Steady w h n t) wher
   -- off the sheet
   off-row : (x y : ℕ) → x ≤ suc w → ((j : ℕ) → named w h n j y ≡ 0) → c x y ≡ false
   off-row x y l f =
-      crossed-start (upright w h n t) x y
+      crossed-start (northward w h n t) x y
       (λ j b.
       let a : j ≤ w = omega arith in
       split-none w h n t (dart (place w j y) 3)
@@ -157,7 +157,7 @@ module _ (w h : ℕ) (n : List ℕ) (t : ℕ → Bool) (k : Steady w h n t) wher
       crossed-down lines-even (suc w) y
       ∙ rw (
         off-east y,
-        level-east w h n t w y,
+        westward-east w h n t w y,
         split-none w h n t (dart (place w w y) 0)
             (side-east w h n w y (le-refl w) ∙ named-east w h n (suc w) (suc y) a
             ∙ sym (across-east w h n w y (le-refl w) ∙ named-east w h n (suc w) y a)),
@@ -169,7 +169,7 @@ module _ (w h : ℕ) (s : List ℕ) (t : ℕ → Bool) (k : Steady w h (names w 
   n = names w h s
 
   abbrev west : ℕ → ℕ → Bool
-  west = crossed (upright w h (names w h s) t)
+  west = crossed (northward w h (names w h s) t)
 
   colour : ℕ → Bool
   colour zero = false
@@ -190,7 +190,7 @@ module _ (w h : ℕ) (s : List ℕ) (t : ℕ → Bool) (k : Steady w h (names w 
 
   colour-named : (x y : ℕ) → x ≤ suc w → colour (named w h n x y) ≡ west x y
   unfolding colour
-  colour-named zero y l = rw (named-west w h n y) (sym (crossed-west (upright w h n t) y))
+  colour-named zero y l = rw (named-west w h n y) (sym (crossed-west (northward w h n t) y))
   colour-named (suc x) zero l = rw (named-north w h n (suc x)) (sym (off-north w h n t k (suc x) l))
   colour-named (suc x) (suc y) l = go (decLt x w) (decLt y h)
     where
@@ -212,21 +212,21 @@ module _ (w h : ℕ) (s : List ℕ) (t : ℕ → Bool) (k : Steady w h (names w 
       → side w h n e ≡ named w h n u v → odd (west x y) (west u v) ≡ split w h n t d → Changes d
   changes d e x y u v r a b p q f = rw (r, p, q, colour-named x y a, colour-named u v b) f
 
-  row-changes : (x y : ℕ) → odd (west x y) (west (suc x) y) ≡ upright w h n t x y
-  row-changes x y = rw (crossed-east (upright w h n t) x y) (odd-twice (west x y) (upright w h n t x y))
+  row-changes : (x y : ℕ) → odd (west x y) (west (suc x) y) ≡ northward w h n t x y
+  row-changes x y = rw (crossed-east (northward w h n t) x y) (odd-twice (west x y) (northward w h n t x y))
 
-  column-changes : (x y : ℕ) → odd (west x y) (west x (suc y)) ≡ level w h n t x y
-  column-changes x y = rw (crossed-down (lines-even w h n t k) x y) (odd-twice (west x y) (level w h n t x y))
+  column-changes : (x y : ℕ) → odd (west x y) (west x (suc y)) ≡ westward w h n t x y
+  column-changes x y = rw (crossed-down (lines-even w h n t k) x y) (odd-twice (west x y) (westward w h n t x y))
 
   colour-line : (d : ℕ) → line w h d ≡ true → Changes d
   colour-line =
       every-line w h Changes
       (λ x y a b. changes (dart (place w x y) 0) (dart (place w (suc x) y) 2) (suc x) (suc y) (suc x) y
       (reversal-east w x y) (omega arith) (omega arith) (side-east w h n x y (omega arith)) (side-west w h n (suc x) y a)
-      (odd-comm (west (suc x) (suc y)) (west (suc x) y) ∙ column-changes (suc x) y ∙ level-east w h n t x y))
+      (odd-comm (west (suc x) (suc y)) (west (suc x) y) ∙ column-changes (suc x) y ∙ westward-east w h n t x y))
       (λ x y a b. changes (dart (place w x y) 1) (dart (place w x (suc y)) 3) x (suc y) (suc x) (suc y)
       (reversal-south w x y) (omega arith) (omega arith) (side-south w h n x y a) (side-north w h n x (suc y) a)
-      (row-changes x (suc y) ∙ upright-south w h n t x y))
+      (row-changes x (suc y) ∙ northward-south w h n t x y))
       (λ x y a b. changes (dart (place w (suc x) y) 2) (dart (place w x y) 0) (suc x) y (suc x) (suc y)
       (reversal-west w x y) (omega arith) (omega arith) (side-west w h n (suc x) y a) (side-east w h n x y (omega arith))
       (column-changes (suc x) y))

@@ -36,11 +36,11 @@ use Rattle.paper.specs.Enclosure.{topSide, hole, holes}
 use Rattle.paper_laws.proofs.Name.{cell-below, name-range, name-own}
 use Rattle.paper_laws.proofs.Cells.{named-west, named-north, named-east, named-south}
 use Rattle.paper_laws.proofs.First.{every-cell, top-side-cell, named-cell, top-side-on}
-use Rattle.paper_laws.proofs.Sheet.{across, side-east, across-east, border-differs, differs-border, border-lines}
+use Rattle.paper_laws.proofs.Sheet.{across, side-east, across-east, border-differs, differs-border}
 use Rattle.paper_laws.proofs.Piece.{tops-le}
 use Rattle.paper_laws.proofs.Kept.{top, mask-some}
 use Rattle.paper_laws.proofs.Marks.{within-fits}
-use Rattle.paper_laws.proofs.Enclosure.{Head, head-top, head-east, head-north-cells, head-west-cells, head-side}
+use Rattle.paper_laws.proofs.Enclosure.{Head, line-head, head-east, head-north-cells, head-west-cells, head-side}
 use Rattle.paper_laws.proofs.Enclosure.{round, parentage, parents-own, parents-used}
 use Rattle.paper_laws.proofs.Parity.{sheet-edged, nook, inner, top-inner}
 use Rattle.paper_laws.proofs.Round.{region-inside}
@@ -196,10 +196,7 @@ module _ (w h : ℕ) (s : List ℕ) (small : slots w h ≤ mark) (r p : ℕ) (ot
 
   outer-head : (i : ℕ) → i < w * h → getD (names w h s) i 0 ≡ suc i
       → top w h (border w h (names w h s)) (point (topSide w i)) ≡ p → Head w h (border w h (names w h s)) p
-  outer-head i b e q =
-      rw q
-      at (head-top w h (border w h l) (border-lines w h l) (point (topSide w i))
-      (mask-some (border w h l) (topSide w i) (point (topSide w i)) (top-side-on w h s i b e) refl))
+  outer-head i b e q = rw q at (line-head w h l (topSide w i) (top-side-on w h s i b e))
 
   parent-round : (i : ℕ) → i < w * h → getD (names w h s) i 0 ≡ suc i
       → top w h (border w h (names w h s)) (point (topSide w i)) ≡ p

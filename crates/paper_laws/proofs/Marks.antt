@@ -14,9 +14,9 @@ use lib.Dec.{eqb, ltb}
 use lib.ListN.{length, getD}
 use lib.Seq.{ext-getD}
 use borrow.Author.Tests.{ltb-true, eq-eqb, ne-eqb}
-use Rattle.laws.specs.Run.{run}
 use Rattle.laws.proofs.Table.{length-table, getD-table, getD-table-past, table-agree}
 use Rattle.laws.proofs.Test.{and-left}
+use Rattle.laws.proofs.Walk.{run-stays}
 use Rattle.sheet_size.specs.Size.{within}
 use Rattle.point_darts.specs.Dart.{mark, points, slots, point, direction, far}
 use Rattle.point_darts.specs.Point.{right, corner}
@@ -155,19 +155,9 @@ module _ (w h : ℕ) (on : ℕ → Bool) (l : Lines w h on) where
   pub next-stays : (d : ℕ) → on d ≡ true → on (next w on d) ≡ true
   next-stays d e = next-on w on d (l .back d e)
 
-  run-stays : (stop : ℕ → Bool) (n d : ℕ) → on d ≡ true → on (run (next w on) stop n d) ≡ true
-  unfolding run
-  run-stays stop zero d e = e
-  run-stays stop (suc n) d e = run-step (stop d) (run-stays stop n (next w on d) (next-stays d e))
-    where
-      run-step : (t : Bool) → on (run (next w on) stop n (next w on d)) ≡ true
-          → on (elim t [ true ↦ d | false ↦ run (next w on) stop n (next w on d) ]) ≡ true
-      run-step true r = e
-      run-step false r = r
-
   pub last-stays : (keep : ℕ → Bool) (d : ℕ) → on d ≡ true → on (last w h on keep d) ≡ true
   unfolding last
-  last-stays keep d = run-stays (λ e. keep (far w e)) (slots w h) d
+  last-stays keep = run-stays (next w on) (λ e. keep (far w e)) (λ d. on d ≡ true) next-stays (slots w h)
 
   pub along-on : (keep : ℕ → Bool) (d : ℕ) → along w h on keep .on d ≡ true → on d ≡ true
   unfolding along

@@ -28,9 +28,8 @@ use Rattle.paper.specs.Level.{border}
 use Rattle.paper.specs.Enclosure.{topSide}
 use Rattle.paper_laws.proofs.Name.{Beside, cell-below, chain-name, name-chain}
 use Rattle.paper_laws.proofs.First.{every-cell, top-side-cell, named-cell, named-cases, top-side-on}
-use Rattle.paper_laws.proofs.Sheet.{border-lines}
-use Rattle.paper_laws.proofs.Kept.{top, mask-some}
-use Rattle.paper_laws.proofs.Enclosure.{Head, head-top, head-side, round, round-below}
+use Rattle.paper_laws.proofs.Kept.{top}
+use Rattle.paper_laws.proofs.Enclosure.{Head, line-head, head-side, round, round-below}
 use Rattle.paper_laws.proofs.Enclosure.{Used, parentage, parents-own}
 use Rattle.paper_laws.proofs.Parity.{sheet-edged, nook, inner, inner-east, inner-south, top-inner}
 
@@ -145,9 +144,7 @@ module _ (w h : ℕ) (s : List ℕ) (x y : ℕ) (a : x < w) (b : y < h)
   first-line = rw (top-side-cell w x y a) at (top-side-on w h s i (cell-below w h x y a b) own)
 
   first-head : Head w h (border w h l) t
-  first-head =
-      head-top w h (border w h l) (border-lines w h l) (place w x y)
-      (mask-some (border w h l) (dart (place w x y) 0) (place w x y) first-line (point-dart (place w x y) 0 (lit< tt)))
+  first-head = rw (point-dart (place w x y) 0 (lit< tt)) at (line-head w h l (dart (place w x y) 0) first-line)
 
   round-nook : round w h l i ≡ nook w h l t
   unfolding round corner cells

@@ -4,7 +4,7 @@
 --   every-line      == a law of the darts along rows and along columns is a law of every dart whose line is on the sheet
 use mathlib.Core.Path.{_≡_, ap, ap₂, _∙_, subst}
 use mathlib.Core.Bool.{true, _&&_, and-eq-true-iff}
-use Prim.Native.Nat.{ℕ, zero, suc, _+_, _*_, _/_, _%_, _<_, _≤_}
+use Prim.Native.Nat.{ℕ, zero, suc, _+_, _*_, _-_, _/_, _%_, _<_, _≤_}
 use native.Mathlib.Nat.{mul-add-div-right, mul-add-mod-self-right, div-eq-of-lt, mod-eq-of-lt, mod-lt, div-add-mod'}
 use native.Mathlib.Nat.{add-zero, suc-mul, mul-comm, mul-le-mul-right}
 use native.Mathlib.Numerals.{add-one}
@@ -115,6 +115,15 @@ far-dart w p k h = ap₂ (beside w) (point-dart p k h) (direction-dart p k h)
 pub reversal-dart : (w p k : ℕ) → k < 4 → reversal w (dart p k) ≡ dart (beside w p k) (turned k 2)
 unfolding reversal
 reversal-dart w p k h = ap₂ dart (far-dart w p k h) (ap (λ j. turned j 2) (direction-dart p k h))
+
+-- the dart east of a point, and the dart west that leads back to it
+pub east-back : (w p : ℕ) → reversal w (dart p 0) ≡ dart (p + 1) 2
+unfolding beside turned
+east-back w p = reversal-dart w p 0 (lit< tt)
+
+pub west-back : (w p : ℕ) → reversal w (dart (p + 1) 2) ≡ dart p 0
+unfolding beside turned
+west-back w p = reversal-dart w (p + 1) 2 (lit< tt) ∙ ap (λ q. dart q 0) (let e : p + 1 - 1 ≡ p = omega arith in e)
 
 -- the reversal of a dart that leaves a place
 module _ (w x y : ℕ) where

@@ -7,16 +7,13 @@ use mathlib.Core.Bool.{Bool, true, false, not, true≢false}
 use mathlib.Core.List.{List}
 use Prim.Native.Nat.{ℕ, suc, _+_, _*_, _/_, _%_, _<_, _≤_}
 use native.Mathlib.Omega.{arith}
-use lib.Dec.{eqb, lit<, lit≤}
+use lib.Dec.{eqb, lit<}
 use borrow.Author.Tests.{eq-eqb, eqb-true, not-false}
 use Rattle.laws.specs.Table.{number}
+use Rattle.laws.proofs.Count.{number-below}
 use Rattle.point_darts.specs.Dart.{turned}
 use Rattle.point_darts.specs.Point.{bits, half, has, right, left, parts, present, degree}
 use Rattle.point_darts.proofs.Darts.{four, turned-below, turned-back, turned-none}
-
-pub number-below : (b : Bool) → number b ≤ 1
-number-below true = lit≤ tt
-number-below false = lit≤ tt
 
 read : (m : ℕ) (b : Bool) → m ≡ number b → eqb m 1 ≡ b
 read m true e = rw e

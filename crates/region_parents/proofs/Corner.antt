@@ -14,8 +14,8 @@ use lib.ListN.{length, getD, set}
 use lib.Seq.{getD-set-same}
 use borrow.Author.Tests.{eq-eqb, ne-eqb}
 use Rattle.laws.specs.Table.{table}
-use Rattle.point_darts.specs.Dart.{mark, points, dart, beside, turned, reversal}
-use Rattle.point_darts.proofs.Darts.{point-dart, place, place-below, reversal-dart}
+use Rattle.point_darts.specs.Dart.{mark, points, dart, reversal}
+use Rattle.point_darts.proofs.Darts.{point-dart, place, place-below, east-back}
 use Rattle.paper.specs.Enclosure.{parent}
 use Rattle.paper.specs.Joining.{at, on}
 use Rattle.paper_laws.proofs.First.{top-side-cell}
@@ -27,8 +27,8 @@ use Rattle.region_parents.specs.Corner.{parentFrom}
 
 -- The dart that leads back from the dart east leaves the next point west.
 back-east : (w p j : ℕ) → j ≡ dart (p + 1) 0 → reversal w (dart p 0) ≡ j + 2
-unfolding beside turned dart
-back-east w p j e = reversal-dart w p 0 (lit< tt) ∙ omega arith
+unfolding dart
+back-east w p j e = east-back w p ∙ omega arith
 
 -- The parent of a name from a point k, whose first slot is i.
 and-false : {A : Type 0} (b : Bool) (x y : A) → y ≡ cond (b && false) x y

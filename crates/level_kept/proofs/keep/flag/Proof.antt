@@ -4,7 +4,7 @@ use native.Mathlib.Omega.{arith}
 use lib.ListN.{length, getD}
 use borrow.Author.Needs.{needs}
 use Rattle.laws.specs.Table.{table, number}
-use Rattle.point_darts.proofs.Points.{number-below}
+use Rattle.laws.proofs.Count.{number-below}
 use Rattle.level_kept.specs.Keep.{large}
 use Rattle.level_kept.proofs.Flags.{flags, flags-none, flags-long, back-le, flag-own, flags-next}
 use Rattle.level_kept.proofs.keep.flag.Statement.{statement}

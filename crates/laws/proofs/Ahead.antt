@@ -1,4 +1,4 @@
--- Contours: the orbits of a map that is one-to-one.
+-- What is ahead of a dart in its orbit, and the least dart there.
 --   Turns n on f    == f is one-to-one on the darts that are on, and stays among them; all are below n
 --   times f i d     == f applied i times to d
 --   run f stop n d  == the first of d, f d, f (f d), .. that passes the test stop, looked for n steps far
@@ -18,18 +18,7 @@ use Rattle.laws.proofs.Test.{clash, same-test}
 use Rattle.laws.proofs.Chart.{Turns, times}
 use Rattle.laws.proofs.Orbit.{times-suc, returns}
 use Rattle.laws.proofs.Meet.{times-none, round-about}
-use Rattle.laws.proofs.Walk.{run-stop, run-go, run-stops, run-reaches}
-
--- what goes from dart to dart holds at the end of a run
-module _ (f : ℕ → ℕ) (stop : ℕ → Bool) (P : ℕ → Type 0) (stays : (x : ℕ) → P x → P (f x)) where
-  pub run-stays : (n d : ℕ) → P d → P (run f stop n d)
-  unfolding run
-  run-stays zero d p = p
-  run-stays (suc n) d p = go (stop d) refl (run-stays n (f d) (stays d p))
-    where
-      go : (b : Bool) → stop d ≡ b → P (run f stop n (f d)) → P (run f stop (suc n) d)
-      go true e r = rw (run-stop f stop (suc n) d e) p
-      go false e r = rw (run-go f stop n d e) r
+use Rattle.laws.proofs.Walk.{run-stays, run-stops, run-reaches}
 
 run-ahead : (f : ℕ → ℕ) (stop : ℕ → Bool) (n d : ℕ) → (k : ℕ) × (times f k d ≡ run f stop n d)
 run-ahead f stop n d =
