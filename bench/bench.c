@@ -23,16 +23,23 @@ _Noreturn void exit(int status);
 
 enum { MARK = 65535, MONOTONIC = 1, ERRORS = 2 };
 
-/* The sizes that are measured, and the kinds of sheets. */
-enum { SIZES = 5, LEAST = 4, LIMIT = 72, KINDS = 5 };
-enum { AT_18 = 2, AT_72 = 4, FOUR_LABELS = 1 };
-static const int sizes[SIZES] = {LEAST, 9, 18, 36, LIMIT};
+/* A rival from before wide sheets does not say how wide a sheet may be. */
+#ifndef PLAIN_WIDEST
+#define PLAIN_WIDEST 72
+#endif
+
+/* The sizes that are measured, the widest where the rival takes it, and the kinds of sheets. */
+enum { LEAST = 4, TALLEST = 72, WIDEST = 110, KINDS = 5 };
+enum { AT_18 = 2, AT_72 = 4, AT_WIDEST = 5, SIZES = PLAIN_WIDEST < WIDEST ? AT_WIDEST : AT_WIDEST + 1, FOUR_LABELS = 1 };
+static const struct size {
+    int width, height;
+} sizes[AT_WIDEST + 1] = {{LEAST, LEAST}, {9, 9}, {18, 18}, {36, 36}, {72, 72}, {WIDEST, TALLEST}};
 static const char *const names[KINDS] = {"2 random labels", "4 random labels", "16 random labels", "all different",
                                          "nested squares"};
 
-/* A batch is as many sheets of one size as have the cells of so many sheets of 72 by 72. So many batches are gone through in
- * so many rounds; regions are joined in so many places of a sheet. */
-enum { LARGEST = 4, CELLS = LARGEST * LIMIT * LIMIT, BATCHES = 10, ROUNDS = 8, PLACES = 4 };
+/* A batch is as many sheets of one size as have at most the cells of four sheets of 72 by 72. So many batches are gone
+ * through in so many rounds; regions are joined in so many places of a sheet. */
+enum { SQUARE = 72 * 72, CELLS = 4 * SQUARE, BATCHES = 10, ROUNDS = 8, PLACES = 4 };
 
 /* The most sheets of a batch, and its most slots and names: those of the smallest sheets. */
 enum { MOST = CELLS / (LEAST * LEAST), SLOTS = 4 * (LEAST + 1) * (LEAST + 1) * MOST, NAMES = (LEAST * LEAST + 1) * MOST };
@@ -43,13 +50,13 @@ struct room {
 };
 
 static struct room our_room, plain_room;
-static u16 work[4][4 * (LIMIT + 1) * (LIMIT + 1)];
+static u16 work[4][4 * (WIDEST + 1) * (TALLEST + 1)];
 
 /* The sheets of one kind and size, and the batch at hand. */
 static u16 sheets[BATCHES * CELLS], batch[CELLS];
 
 /* The size of the sheets, and how many a batch has. */
-static int side, cells, slots, count;
+static int width, height, cells, slots, count;
 
 static double now(void) {
     struct instant t;
@@ -91,22 +98,22 @@ static int same(struct five a, struct five b) {
 #define WORKS LINKS(work[0]), LINKS(work[1]), LINKS(work[2]), LINKS(work[3])
 
 static void our_draw(struct hand h) {
-    need(!raimenolta_draw((u16)side, (u16)side, h.sheet, (size_t)cells, FIVE(h.our), WORKS), "the library refuses a sheet");
+    need(!raimenolta_draw((u16)width, (u16)height, h.sheet, (size_t)cells, FIVE(h.our), WORKS), "the library refuses a sheet");
 }
 
 static void our_check(struct hand h) {
-    need(!raimenolta_check((u16)side, (u16)side, FIVE(h.our), WORKS), "the library refuses a drawing");
+    need(!raimenolta_check((u16)width, (u16)height, FIVE(h.our), WORKS), "the library refuses a drawing");
 }
 
 static void our_join(struct hand h) {
-    need(!raimenolta_join((u16)side, (u16)side, FIVE(h.our), (u16)h.a, (u16)h.b, WORKS), "the library refuses a join");
+    need(!raimenolta_join((u16)width, (u16)height, FIVE(h.our), (u16)h.a, (u16)h.b, WORKS), "the library refuses a join");
 }
 
-static void its_draw(struct hand h) { plain_draw(side, side, h.sheet, h.plain); }
+static void its_draw(struct hand h) { plain_draw(width, height, h.sheet, h.plain); }
 
-static void its_check(struct hand h) { need(plain_check(side, side, h.plain), "plain C refuses a drawing"); }
+static void its_check(struct hand h) { need(plain_check(width, height, h.plain), "plain C refuses a drawing"); }
 
-static void its_join(struct hand h) { need(!plain_join(side, side, h.plain, h.a, h.b), "plain C refuses a join"); }
+static void its_join(struct hand h) { need(!plain_join(width, height, h.plain, h.a, h.b), "plain C refuses a join"); }
 
 /* The times of one side for the cells of 72 by 72, in microseconds. */
 struct times {
@@ -138,7 +145,7 @@ static void keep(float *least, double began) {
 
 /* The two regions beside the first line between regions from a slot on. */
 static void find_pair(struct hand *h, int slot) {
-    int far[4] = {1, side + 1, -1, -side - 1};
+    int far[4] = {1, width + 1, -1, -width - 1};
     const u16 *side1 = h->our.side1;
     for (int k = 0; k < slots; k++) {
         int dart = slot + k < slots ? slot + k : slot + k - slots;
@@ -198,8 +205,8 @@ static void different_sheet(u16 *to) {
 
 static void nested_sheet(u16 *to) {
     for (int c = 0; c < cells; c++) {
-        int x = c % side, y = c / side;
-        int across = x < side - 1 - x ? x : side - 1 - x, down = y < side - 1 - y ? y : side - 1 - y;
+        int x = c % width, y = c / width;
+        int across = x < width - 1 - x ? x : width - 1 - x, down = y < height - 1 - y ? y : height - 1 - y;
         to[c] = (u16)(across < down ? across : down);
     }
 }
@@ -207,9 +214,10 @@ static void nested_sheet(u16 *to) {
 /* The sheets of a kind and a size. Those of a kind that is not random are all alike. */
 static void make_sheets(int kind, int size) {
     static const int labels[3] = {2, 4, 16};
-    side = sizes[size];
-    cells = side * side;
-    slots = 4 * (side + 1) * (side + 1);
+    width = sizes[size].width;
+    height = sizes[size].height;
+    cells = width * height;
+    slots = 4 * (width + 1) * (height + 1);
     count = CELLS / cells;
     seed = 1;
     for (int n = 0; n < BATCHES * count; n++) {
@@ -223,7 +231,7 @@ static void make_sheets(int kind, int size) {
     }
 }
 
-static void lay(int n) { memcpy(batch, sheets + n * CELLS, sizeof(batch)); }
+static void lay(int n) { memcpy(batch, sheets + n * count * cells, sizeof(u16) * (unsigned long)(count * cells)); }
 
 /* All sheets of a kind and a size, at each place: a sheet comes again after all the others. */
 static void go_round(int kind, int size) {
@@ -238,13 +246,14 @@ static void go_round(int kind, int size) {
 /* The mean times. */
 static struct times mean(struct least least[PLACES][BATCHES][MOST], int size) {
     struct times sum = {0, 0, 0};
-    int number = CELLS / (sizes[size] * sizes[size]);
+    int area = sizes[size].width * sizes[size].height, number = CELLS / area;
+    double squares = (double)(PLACES * BATCHES * number) * area / SQUARE;
     for (int k = 0; k < PLACES * BATCHES; k++)
         for (int n = 0; n < number; n++) {
             struct least one = least[k / BATCHES][k % BATCHES][n];
-            sum.draw += (double)one.draw / (PLACES * BATCHES * LARGEST);
-            sum.check += (double)one.check / (PLACES * BATCHES * LARGEST);
-            sum.join += (double)one.join / (PLACES * BATCHES * LARGEST);
+            sum.draw += (double)one.draw / squares;
+            sum.check += (double)one.check / squares;
+            sum.join += (double)one.join / squares;
         }
     return sum;
 }
@@ -288,6 +297,24 @@ static void plain_table(void) {
     }
 }
 
+/* What a cell costs at one size against another. */
+static void growth(int kind, int size, int from) {
+    struct times o = our[kind][size], f = our[kind][from];
+    printf(" %.2f | %.2f | %.2f |", o.draw / f.draw, o.check / f.check, o.join / f.join);
+}
+
+static void wide_table(void) {
+    if (SIZES <= AT_WIDEST) return;
+    printf("\n| sheet | 110 by 72: drawing / plain | check / plain | join / plain | drawing, cost of a cell against 72 by 72 "
+           "| check | join |\n|---|---|---|---|---|---|---|\n");
+    for (int kind = 0; kind < KINDS; kind++) {
+        printf("| %s |", names[kind]);
+        against_plain(kind, AT_WIDEST);
+        growth(kind, AT_WIDEST, AT_72);
+        printf("\n");
+    }
+}
+
 /* A join in drawings, with its check and without. */
 static void in_drawings(int kind, int size, const char *between) {
     struct times o = our[kind][size];
@@ -318,18 +345,17 @@ static void small_table(void) {
 }
 
 static void targets(void) {
-    printf("\nA drawing takes at most %.2f times plain C (target 1.0), a check at most %.2f (target 1.1), at 72 by 72 and 18 by "
-           "18; a join, its check included, at most %.2f drawings (target 3), without its check %.2f (target 1).\n",
+    printf("\nA drawing takes at most %.2f times plain C (target 1.0), a check at most %.2f (target 1.1), at these "
+           "sizes; a join, its check included, at most %.2f drawings (target 3), without its check %.2f (target 1).\n",
            most_draw, most_check, most_join, most_core);
 }
 
 static void growth_table(void) {
-    struct times most = our[FOUR_LABELS][AT_72];
     printf("\n| 4 random labels | drawing, cost of a cell against 72 by 72 | check | join |\n|---|---|---|---|\n");
     for (int size = 1; size <= AT_72; size++) {
-        struct times o = our[FOUR_LABELS][size];
-        printf("| %d by %d | %.2f | %.2f | %.2f |\n", sizes[size], sizes[size], o.draw / most.draw, o.check / most.check,
-               o.join / most.join);
+        printf("| %d by %d |", sizes[size].width, sizes[size].height);
+        growth(FOUR_LABELS, size, AT_72);
+        printf("\n");
     }
 }
 
@@ -372,6 +398,7 @@ int main(int words, char **word) {
     }
     measure();
     plain_table();
+    wide_table();
     drawings_table();
     small_table();
     targets();

@@ -14,7 +14,8 @@ typedef uint16_t u16;
 void *memset(void *to, int byte, unsigned long count);
 int memcmp(const void *a, const void *b, unsigned long count);
 
-enum { LIMIT = 72, ROW = LIMIT + 1, CELLS = LIMIT * LIMIT, POINTS = ROW * ROW, SLOTS = 4 * POINTS, RIM = 2 * ROW + 1 };
+enum { WIDEST = PLAIN_WIDEST, TALLEST = 72, ROW = WIDEST + 1, CELLS = WIDEST * TALLEST, POINTS = ROW * (TALLEST + 1) };
+enum { SLOTS = 4 * POINTS, RIM = 2 * ROW + 1 };
 enum { EAST, SOUTH, WEST, NORTH };
 enum { MARK = 65535 };
 
@@ -48,8 +49,8 @@ static inline u16 plant(u16 *up, u16 node, u16 no_before, u16 before, u16 no_abo
 static u16 names[POINTS + ROW + 1];
 
 static void name_cells(int width, int height, const u16 *restrict sheet) {
-    static u16 up_and_rim[LIMIT + CELLS], not_left[CELLS], not_above[CELLS];
-    u16 *up = up_and_rim + LIMIT;
+    static u16 up_and_rim[WIDEST + CELLS], not_left[CELLS], not_above[CELLS];
+    u16 *up = up_and_rim + WIDEST;
     int row = width + 1, cells = width * height;
     for (int c = 1; c < cells; c++) not_left[c] = ones(sheet[c - 1] != sheet[c]);
     for (int c = 0; c < cells; c += width) not_left[c] = MARK;

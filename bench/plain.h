@@ -3,6 +3,9 @@
 #define PLAIN_H
 #include <stdint.h>
 
+/* How wide a sheet may be. */
+#define PLAIN_WIDEST 110
+
 /* The five tables of a drawing. */
 struct five {
     uint16_t *next1, *side1, *next3, *other3, *parent;

@@ -3,7 +3,7 @@
 //!
 //! A kind depends on nothing but the sheet and the seed, so a case that differs can be made smaller.
 
-use crate::naive::{self, Five, Size, CARD, CELLS, MARK};
+use crate::naive::{self, Five, Size, CARD, CELLS, COLUMNS, MARK, TALLEST, WIDEST};
 use crate::request::{difference, list, Answer, Call, Request, Server};
 use crate::sheets::{self, Random, Sheet};
 use std::sync::OnceLock;
@@ -80,9 +80,9 @@ pub struct Kind {
 
 /// The kinds; `cross/run --help` prints the name and the seconds of each, with the line above it.
 pub fn kinds() -> Vec<Kind> {
-    let any = |_: usize, random: &mut Random| sized(random, 72);
-    let middling = |_: usize, random: &mut Random| sized(random, 20);
-    let little = |_: usize, random: &mut Random| sized(random, 9);
+    let any = |_: usize, random: &mut Random| sized(random, WIDEST as usize, TALLEST as usize);
+    let middling = |_: usize, random: &mut Random| sized(random, 20, 20);
+    let little = |_: usize, random: &mut Random| sized(random, 9, 9);
     vec![
         // every level, count and join of every sheet up to 3 by 3 with up to 3 labels
         Kind { name: "small", seconds: 5, cases: sheets::all_small().len(), sheet: small, compare: everything },
@@ -92,7 +92,7 @@ pub fn kinds() -> Vec<Kind> {
         Kind { name: "drawings", seconds: 9, cases: 4000, sheet: any, compare: drawings },
         // joins in a sheet up to 20 by 20, until no two regions share a line
         Kind { name: "joins", seconds: 22, cases: 2400, sheet: middling, compare: joins },
-        // such joins in a sheet of 72 by 72
+        // such joins in a sheet of 72 by 72 or of 110 by 72
         Kind { name: "large joins", seconds: 4, cases: 9, sheet: large, compare: joins },
         // such joins in a sheet of many regions
         Kind { name: "long joins", seconds: 7, cases: 2, sheet: crowded, compare: joins },
@@ -108,13 +108,22 @@ pub fn kinds() -> Vec<Kind> {
         Kind { name: "large lengths", seconds: 1, cases: 15, sheet: any, compare: lengths },
         // writing a deck, reading it, and reading decks changed in one or two ways
         Kind { name: "decks", seconds: 4, cases: 6000, sheet: any, compare: decks },
-        // a small deck with each byte changed, and cut at each place
-        Kind { name: "deck bytes", seconds: 2, cases: 24, sheet: little, compare: deck_bytes },
+        // a deck of few cards with each byte changed, and cut at each place
+        Kind { name: "deck bytes", seconds: 2, cases: 24, sheet: few_cards, compare: deck_bytes },
     ]
 }
 
-fn sized(random: &mut Random, limit: usize) -> Sheet {
-    let size = sheets::size(random, limit);
+fn sized(random: &mut Random, widest: usize, tallest: usize) -> Sheet {
+    let size = sheets::size(random, widest, tallest);
+    sheets::sheet(random, size)
+}
+
+/// A sheet whose deck has few cards, in turn of one card a row and of two.
+fn few_cards(index: usize, random: &mut Random) -> Sheet {
+    if index % 2 == 0 {
+        return sized(random, 9, 9);
+    }
+    let size = Size { width: COLUMNS + 1 + random.below(WIDEST as usize - COLUMNS), height: 1 + random.below(4) };
     sheets::sheet(random, size)
 }
 
@@ -130,8 +139,8 @@ fn crowded(_: usize, random: &mut Random) -> Sheet {
     sheets::speckled(random, size, 4)
 }
 
-fn large(_: usize, random: &mut Random) -> Sheet {
-    sheets::painted_over(random, Size { width: 72, height: 72 })
+fn large(index: usize, random: &mut Random) -> Sheet {
+    sheets::painted_over(random, Size { width: [72, WIDEST as usize][index % 2], height: TALLEST as usize })
 }
 
 // ---------------------------------------------------------------------------------------------------------------------
@@ -203,7 +212,7 @@ fn read(random: &mut Random, deck: Vec<u8>) -> Request {
 }
 
 fn write(random: &mut Random, sheet: &Sheet) -> Request {
-    let bytes = (0..CARD * (sheet.size.height + 1)).map(|_| random.word() as u8).collect();
+    let bytes = (0..sheet.size.deck()).map(|_| random.word() as u8).collect();
     let numbers = sized_numbers(sheet.size, &[]);
     Request { call: Call::Write, numbers, tables: vec![sheet.labels.clone()], bytes }
 }
@@ -320,7 +329,7 @@ fn some_name(random: &mut Random, five: &Five) -> u16 {
     match random.below(8) {
         0 => 0,
         1 => above + random.below(3) as u16,
-        2 => random.one_of(&[MARK, MARK - 1, 32768, 256, 5184, 5185]),
+        2 => random.one_of(&[MARK, MARK - 1, 32768, 256, 5184, 5185, 7920, 7921]),
         3 | 4 => random.below(five.parent.len()) as u16,
         _ => random.one_of(&used(five)),
     }
@@ -499,9 +508,10 @@ fn one_length_wrong(random: &mut Random, request: &Request) -> Vec<Request> {
     wrong
 }
 
-/// A width or height, most often not 1 to 72.
+/// A width or height, most often out of its limits.
 fn some_length(random: &mut Random, right: u16) -> u16 {
-    random.one_of(&[0, 73, 65535, 1, 72, 74, 127, 128, 255, 256, right + 1, right - 1, right, right + 256, 32768])
+    let near = [right + 1, right - 1, right, right + 256];
+    random.one_of(&[&[0, 1, 72, 73, 74, 110, 111, 127, 128, 255, 256, 32768, 65535], &near[..]].concat())
 }
 
 /// The request with a few things wrong at once, to compare the order of refusals.
@@ -509,7 +519,7 @@ fn several_wrong(random: &mut Random, request: &Request) -> Request {
     let mut wrong = request.clone();
     for number in wrong.numbers.iter_mut() {
         if random.once_in(3) {
-            *number = some_length(random, (*number).max(1).min(72));
+            *number = some_length(random, (*number).max(1).min(WIDEST));
         }
     }
     if wrong.numbers.len() >= 2 && random.once_in(4) {
@@ -548,7 +558,7 @@ fn lengths(both: &mut Both, sheet: &Sheet, random: &mut Random) -> Same {
         counts(random, size, &five),
         read(random, deck.clone()),
         write(random, written),
-        part_refusal(text.width(), deck[CARD..2 * CARD].to_vec()),
+        part_refusal(text.width().min(COLUMNS as u16), deck[CARD..2 * CARD].to_vec()),
     ];
     for request in &requests {
         for wrong in one_length_wrong(random, request) {
@@ -579,6 +589,19 @@ fn some_byte(random: &mut Random) -> u8 {
     }
 }
 
+/// A number to put in a header: near a limit, or near how many cards or rows there are.
+fn some_size(random: &mut Random, cards: usize) -> usize {
+    let near = [cards, cards - cards.min(1), cards + 1, cards / 2];
+    random.one_of(&[&[0, 1, 2, 10, 71, 72, 73, 74, 99, 100, 109, 110, 111, 112, 172, 999], &near[..]].concat())
+}
+
+/// Puts bytes at a place of a deck, where it is so long.
+fn replace(deck: &mut [u8], at: usize, bytes: &str) {
+    if let Some(old) = deck.get_mut(at..at + bytes.len()) {
+        old.copy_from_slice(bytes.as_bytes());
+    }
+}
+
 /// A deck changed in one way.
 fn changed(random: &mut Random, deck: &[u8]) -> Vec<u8> {
     let mut deck = deck.to_vec();
@@ -588,7 +611,7 @@ fn changed(random: &mut Random, deck: &[u8]) -> Vec<u8> {
     let cards = deck.len() / CARD;
     let one = CARD * random.below(cards.max(1));
     let two = CARD * random.below(cards.max(1));
-    match random.below(14) {
+    match random.below(15) {
         0..=2 => {
             let k = random.below(deck.len());
             deck[k] = some_byte(random);
@@ -598,11 +621,9 @@ fn changed(random: &mut Random, deck: &[u8]) -> Vec<u8> {
             deck[k] = some_byte(random);
         }
         4 => {
-            let number = random.one_of(&[0, 1, 2, 10, 71, 72, 73, 99, cards, cards - cards.min(1), cards + 1]);
-            let at = random.one_of(&[6, 8]);
-            if deck.len() > 10 {
-                deck[at..at + 2].copy_from_slice(format!("{:02}", number % 100).as_bytes());
-            }
+            let number = some_size(random, cards);
+            let (at, digits) = random.one_of(&[(6, 2), (8, 2), (6, 3), (9, 2)]);
+            replace(&mut deck, at, &format!("{:0digits$}", number % 10usize.pow(digits as u32)));
         }
         5 => deck.truncate(random.below(deck.len())),
         6 => deck.truncate(one),
@@ -630,6 +651,11 @@ fn changed(random: &mut Random, deck: &[u8]) -> Vec<u8> {
             let k = random.below(deck.len());
             deck.remove(k);
         }
+        13 => {
+            let (width, height) = (some_size(random, cards), some_size(random, cards) % 100);
+            let forms = [format!("SHEET {:02}{height:02} ", width % 100), format!("SHEET2{width:03}{height:02}")];
+            replace(&mut deck, 0, &forms[random.below(2)]);
+        }
         _ => {
             let k = random.below(deck.len());
             deck.insert(k, some_byte(random));
@@ -653,7 +679,7 @@ fn decks(both: &mut Both, sheet: &Sheet, random: &mut Random) -> Same {
             damaged = changed(random, &damaged);
         }
         both.same(read(random, damaged.clone()))?;
-        let width = random.one_of(&[0, 1, 2, 71, 72, 73, 255, 257, 65535, sheet.width()]);
+        let width = random.one_of(&[0, 1, 2, 38, 71, 72, 73, 110, 111, 255, 257, 65535, sheet.width()]);
         let start = CARD * random.below(damaged.len() / CARD + 1);
         let end = (start + random.one_of(&[CARD, CARD, CARD - 1, CARD + 1])).min(damaged.len());
         both.same(part_refusal(width, damaged[start..end].to_vec()))?;
@@ -662,7 +688,7 @@ fn decks(both: &mut Both, sheet: &Sheet, random: &mut Random) -> Same {
     Ok(())
 }
 
-/// Every byte of a small deck changed, and the deck cut at every place.
+/// Every byte of a deck changed, and the deck cut at every place.
 fn deck_bytes(both: &mut Both, sheet: &Sheet, random: &mut Random) -> Same {
     let deck = naive::write(sheet.size, &as_cells(sheet).labels);
     for k in 0..deck.len() {

@@ -13,10 +13,14 @@ use std::collections::HashSet;
 
 /// "None" in every table of links, sides or parents.
 pub const MARK: u16 = 65535;
-/// The greatest width and the greatest height.
-pub const LIMIT: u16 = 72;
+/// The greatest width.
+pub const WIDEST: u16 = 110;
+/// The greatest height.
+pub const TALLEST: u16 = 72;
 /// The length of the reader's cell table.
-pub const CELLS: usize = 5184;
+pub const CELLS: usize = 7920;
+/// The columns of a card that hold its content, and so the most cells of a row that takes one card.
+pub const COLUMNS: usize = 72;
 /// The length of a card: 80 columns and a line feed.
 pub const CARD: usize = 81;
 
@@ -38,10 +42,9 @@ pub struct Size {
 }
 
 impl Size {
-    /// The size, unless the width or the height is not 1 to 72.
+    /// The size, unless the width is not 1 to 110 or the height not 1 to 72.
     pub fn new(width: u16, height: u16) -> Option<Size> {
-        let fits = |n: u16| n >= 1 && n <= LIMIT;
-        if fits(width) && fits(height) {
+        if (1..=WIDEST).contains(&width) && (1..=TALLEST).contains(&height) {
             Some(Size { width: width as usize, height: height as usize })
         } else {
             None
@@ -63,6 +66,11 @@ impl Size {
     /// The length of the parent table: the outside and a name for each cell.
     pub fn names(self) -> usize {
         self.cells() + 1
+    }
+
+    /// The length of the deck: a header, and for each row a card, or two where it is wider than a card.
+    pub fn deck(self) -> usize {
+        CARD * (1 + self.height * if self.width <= COLUMNS { 1 } else { 2 })
     }
 
     fn point(self, x: usize, y: usize) -> usize {
@@ -695,7 +703,7 @@ fn is_cell(byte: u8) -> bool {
 /// Columns 1 to 72 filled with blanks, then the card's number, then a line feed.
 fn card(columns: &[u8], number: usize) -> Vec<u8> {
     let mut card = columns.to_vec();
-    card.resize(72, BLANK);
+    card.resize(COLUMNS, BLANK);
     card.extend(format!("{number:08}\n").bytes());
     card
 }
@@ -711,41 +719,57 @@ pub fn read(deck: &[u8]) -> Result<(u16, u16, Vec<u16>), (u16, u16)> {
         if begun[72..80] != *format!("{number:08}").as_bytes() {
             return refuse(22);
         }
-        Ok(&begun[..72])
+        Ok(&begun[..COLUMNS])
     };
     let header = next_card(1)?;
-    let two_digits = |at: usize| -> Option<u16> {
-        let digits = &header[at..at + 2];
-        digits.iter().all(u8::is_ascii_digit).then(|| (digits[0] - b'0') as u16 * 10 + (digits[1] - b'0') as u16)
+    let digits = |from: usize, to: usize| -> Option<u16> {
+        let digits = &header[from..to];
+        digits.iter().all(u8::is_ascii_digit).then(|| digits.iter().fold(0, |n, byte| 10 * n + (byte - b'0') as u16))
     };
-    let laid_out = header[..6] == *b"SHEET " && header[10..].iter().all(|&byte| byte == BLANK);
-    let (Some(width), Some(height), true) = (two_digits(6), two_digits(8), laid_out) else { return Err((21, 1)) };
-    let size = Size::new(width, height).ok_or((21, 1))?;
+    let (widths, width, height, rest) = match &header[..6] {
+        b"SHEET " => (1..=72, digits(6, 8), digits(8, 10), &header[10..]),
+        b"SHEET2" => (73..=110, digits(6, 9), digits(9, 11), &header[11..]),
+        _ => return Err((21, 1)),
+    };
+    let (Some(width), Some(height)) = (width, height) else { return Err((21, 1)) };
+    if !widths.contains(&width) || !(1..=72).contains(&height) || rest.iter().any(|&byte| byte != BLANK) {
+        return Err((21, 1));
+    }
     let mut labels = Vec::new();
-    for row in 0..size.height {
-        let number = row + 2;
-        for (column, &byte) in next_card(number)?.iter().enumerate() {
-            if column < size.width {
-                if !is_cell(byte) {
-                    return Err((23, number as u16));
+    let mut number = 1;
+    for _ in 0..height {
+        let on_cards = if width <= 72 { vec![width] } else { vec![72, width - 72] };
+        for cells in on_cards {
+            number += 1;
+            for (column, &byte) in next_card(number)?.iter().enumerate() {
+                if column < cells as usize {
+                    if !is_cell(byte) {
+                        return Err((23, number as u16));
+                    }
+                    labels.push(byte as u16);
+                } else if byte != BLANK {
+                    return Err((24, number as u16));
                 }
-                labels.push(byte as u16);
-            } else if byte != BLANK {
-                return Err((24, number as u16));
             }
         }
     }
-    if deck.len() > CARD * (size.height + 1) {
-        return Err((25, height + 2));
+    if deck.len() > CARD * number {
+        return Err((25, number as u16 + 1));
     }
     Ok((width, height, labels))
 }
 
 /// The deck of a sheet whose labels are all cells of a card.
 pub fn write(size: Size, labels: &[u16]) -> Vec<u8> {
-    let mut deck = card(format!("SHEET {:02}{:02}", size.width, size.height).as_bytes(), 1);
-    for (row, labels) in labels.chunks(size.width).enumerate() {
-        deck.extend(card(&labels.iter().map(|&label| label as u8).collect::<Vec<_>>(), row + 2));
+    let Size { width, height } = size;
+    let header =
+        if width <= 72 { format!("SHEET {width:02}{height:02}") } else { format!("SHEET2{width:03}{height:02}") };
+    let mut deck = card(header.as_bytes(), 1);
+    for row in labels.chunks(width) {
+        for cells in row.chunks(COLUMNS) {
+            let number = deck.len() / CARD + 1;
+            deck.extend(card(&cells.iter().map(|&label| label as u8).collect::<Vec<_>>(), number));
+        }
     }
     deck
 }
@@ -775,7 +799,7 @@ pub fn write_call(width: u16, height: u16, sheet: &[u16], deck: &mut [u8]) -> u1
     if sheet.len() != size.cells() {
         return 3;
     }
-    if deck.len() != CARD * (size.height + 1) {
+    if deck.len() != size.deck() {
         return 4;
     }
     if !sheet.iter().all(|&label| (33..=126).contains(&label)) {
@@ -787,7 +811,7 @@ pub fn write_call(width: u16, height: u16, sheet: &[u16], deck: &mut [u8]) -> u1
 
 /// The companion of the call that answers the part of a card which holds its cells.
 pub fn part_refusal_call(width: u16, card: &[u8]) -> u16 {
-    if width < 1 || width > LIMIT {
+    if width < 1 || width as usize > COLUMNS {
         return 1;
     }
     if card.len() != CARD || card[80] != b'\n' {

@@ -70,16 +70,16 @@ impl Sheet {
     }
 }
 
-/// A size up to a limit, small and extreme ones often.
-pub fn size(random: &mut Random, limit: usize) -> Size {
-    let mut length = || match random.below(8) {
+/// A size up to a greatest width and a greatest height, small and extreme ones often.
+pub fn size(random: &mut Random, widest: usize, tallest: usize) -> Size {
+    let mut length = |limit: usize| match random.below(8) {
         0 => 1,
         1 => limit,
         2 | 3 => 1 + random.below(limit.min(6)),
         4 => 1 + random.below(limit.min(20)),
         _ => 1 + random.below(limit),
     };
-    Size { width: length(), height: length() }
+    Size { width: length(widest), height: length(tallest) }
 }
 
 /// So many different labels of the whole range; the least, the greatest and the cells of a card are often among them.

@@ -2,6 +2,7 @@
 //! sides still differ on what the kind does with the sheet.
 
 use crate::kinds::{Both, Difference, Kind};
+use crate::naive::WIDEST;
 use crate::sheets::{Random, Sheet};
 use std::time::{Duration, Instant};
 
@@ -15,7 +16,7 @@ fn smaller(sheet: &Sheet) -> Vec<Sheet> {
     let columns: Vec<usize> = (0..sheet.size.width).collect();
     let rows: Vec<usize> = (0..sheet.size.height).collect();
     let mut sheets = Vec::new();
-    for parts in [2, 4, 8, 72] {
+    for parts in [2, 4, 8, WIDEST as usize] {
         for rest in without_a_part(&rows, parts) {
             sheets.push(sheet.part(&columns, &rest));
         }

@@ -10,6 +10,10 @@
 //! and those of the requests, in the folder `requests`:
 //!   t02_counts.txt       W H; labels; a b a b .. joined first, - for none; name depth holes of each region, the outside first
 //!   t02_order.txt        W H; the five tables and two more; name; depth: number, value if 0; holes: likewise
+//!   t03_decks.txt        as decks.txt
+//!   t03_write.txt        W H; labels; length of the lent deck; number; deck, - also where it is long
+//!   t03_part.txt         width; card; number; part
+//!   t03_joins.txt        as joins.txt, with two tables more
 //!   t04_next.txt         present heading; direction, 4 for none
 //!   t07_point_table.txt  present taken; entry
 //!   t07_joins.txt        W H; labels; a b; present taken entry of each point; the tables after the join, five or more
@@ -176,6 +180,26 @@ fn deck(line: &str) -> bool {
     }
 }
 
+/// The number that writing answers, and the deck; a refusal writes nothing.
+fn written(line: &str) -> bool {
+    let fields: Vec<&str> = line.split(';').collect();
+    let [size, labels, length, number] = [0, 1, 2, 3].map(|k| numbers(fields[k]));
+    let before = vec![7; length[0] as usize];
+    let mut deck = before.clone();
+    let answer = naive::write_call(size[0], size[1], &labels, &mut deck);
+    let expected = bytes(fields[4]);
+    answer == number[0] && if answer == 0 { expected.is_empty() || deck == expected } else { deck == before }
+}
+
+/// The number that the companion of the part call answers, and the part.
+fn part(line: &str) -> bool {
+    let fields: Vec<&str> = line.split(';').collect();
+    let (width, card) = (numbers(fields[0])[0], bytes(fields[1]));
+    let number = naive::part_refusal_call(width, &card);
+    let part = if number == 0 { &card[..width as usize] } else { &[] };
+    number == numbers(fields[2])[0] && part == bytes(fields[3])
+}
+
 /// Runs one file and says how many of its lines agree.
 fn file(folder: &Path, name: &str, agrees: impl Fn(&str) -> bool) -> bool {
     let text = std::fs::read_to_string(folder.join(name)).unwrap_or_else(|e| panic!("{name}: {e}"));
@@ -196,6 +220,10 @@ pub fn run(folder: &Path) -> bool {
         file(folder, "decks.txt", deck),
         file(folder, "requests/t02_counts.txt", fields(counts)),
         file(folder, "requests/t02_order.txt", fields(counts_in_order)),
+        file(folder, "requests/t03_decks.txt", deck),
+        file(folder, "requests/t03_write.txt", written),
+        file(folder, "requests/t03_part.txt", part),
+        file(folder, "requests/t03_joins.txt", fields(join)),
         file(folder, "requests/t04_next.txt", fields(next_line)),
         file(folder, "requests/t07_point_table.txt", fields(point_table)),
         file(folder, "requests/t07_joins.txt", fields(join_by_points)),

@@ -1,7 +1,7 @@
 /*
  * Raimenolta: the combinatorial map of a sheet of labelled cells.
  *
- * A sheet has width W and height H, each 1 to 72, and W*H labels row by row. A region is a largest set of equally
+ * A sheet has width W, 1 to 110, and height H, 1 to 72, and W*H labels row by row. A region is a largest set of equally
  * labelled cells joined through sides; its name is 1 plus the index of its first cell in row order. The outside has the
  * name 0.
  *
@@ -23,7 +23,7 @@
  * every other outcome leaves them all 0.
  *
  * Refusals
- *    1  W or H not 1 to 72
+ *    1  W not 1 to 110, or H not 1 to 72
  *    2  level above 3
  *    3  sheet length not W*H
  *    4  the length of a lent table, work table or written deck is not the stated one
@@ -33,10 +33,10 @@
  *    8  no region has that name
  *    9  the two share no line
  *   20  a card begun is not 80 bytes and a line feed
- *   21  columns 1 to 72 of the header not as laid out, or its W or H not 1 to 72
+ *   21  columns 1 to 72 of the header not as laid out, or its W or H out of the limits of its form
  *   22  columns 73 to 80 wrong
  *   23  a cell not 33 to 126
- *   24  a non-blank after column W, to 72
+ *   24  a non-blank after a card's cells, to column 72
  *   25  input ends before a card starts, or bytes follow the last card
  *   26  the cell table is not of length RAIMENOLTA_CELLS
  *   27  a label to be written is not 33 to 126
@@ -56,11 +56,15 @@
 /* The length of a table by name. */
 #define RAIMENOLTA_NAMES(width, height) ((size_t)(width) * (size_t)(height) + 1)
 
-/* The length of a sheet's deck. */
-#define RAIMENOLTA_DECK(height) (81 * ((size_t)(height) + 1))
+/* The greatest width and the greatest height. */
+#define RAIMENOLTA_WIDEST 110
+#define RAIMENOLTA_TALLEST 72
+
+/* The length of a sheet's deck: a header, and a card a row, or two where the row is wider than 72. */
+#define RAIMENOLTA_DECK(width, height) (81 * (1 + (size_t)(height) * ((width) <= 72 ? 1 : 2)))
 
 /* The length of the table that a deck is read into. */
-#define RAIMENOLTA_CELLS 5184
+#define RAIMENOLTA_CELLS (RAIMENOLTA_WIDEST * RAIMENOLTA_TALLEST)
 
 #ifdef __cplusplus
 extern "C" {
@@ -186,7 +190,7 @@ uint16_t raimenolta_counts(
     uint16_t *work_d, size_t work_d_length);
 
 /*
- * Reads a land deck: reads deck (of any length), writes cells (RAIMENOLTA_CELLS), the labels in row order and 0 after
+ * Reads a land deck of either form: reads deck (of any length), writes cells (RAIMENOLTA_CELLS), the labels in row order and 0 after
  * them, and the two numbers W and H at size. Refusals 26, then card by card 25, 20, 22, then 21 for the header or 23
  * and 24 from the left for a row, and last 25 for bytes after the last card. A refusal writes the one number at card:
  * that of the card, counted from 1, or 0 for 26. When it is done it leaves card as it was.
@@ -205,8 +209,9 @@ uint16_t raimenolta_write(
     uint8_t *deck, size_t deck_length);
 
 /*
- * Whether the first width bytes of a row's card hold its cells: reads card (of any length). Refusals 1 for a width that
- * is not 1 to 72, 20 for a card that is not 80 bytes and a line feed.
+ * Whether the first width bytes of a row's card hold its cells: reads card (of any length). The width is the card's own
+ * count of cells: of a row wider than 72, 72 on its first card and W - 72 on its second. Refusals 1 for a width that is not
+ * 1 to 72, 20 for a card that is not 80 bytes and a line feed.
  */
 uint16_t raimenolta_part_refusal(
     uint16_t width,

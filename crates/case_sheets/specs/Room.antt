@@ -4,7 +4,7 @@ use Prim.Native.Nat.{ℕ, _≤_}
 use Rattle.case_sheets.specs.declared.lengths.Lengths.{Lengths}
 
 abbrev pub room : ℕ
-room = 21320
+room = 32416
 
 pub record Fits (l : Lengths) : Type 0 where
   pub next1 : l .next1 ≤ room

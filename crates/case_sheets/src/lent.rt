@@ -4,7 +4,7 @@ ghost use Rattle.io.specs.Counts.{Counts};
 ghost use Rattle.case_sheets.specs.Room.{room};
 
 // How long a table of a program can be: a few entries more than the greatest number of slots.
-pub const ROOM: usize = 21320;
+pub const ROOM: usize = 32416;
 
 // What a table holds before a call.
 pub const UNTOUCHED: u16 = 7;

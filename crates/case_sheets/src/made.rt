@@ -110,8 +110,8 @@ pub fn sheet(kind: u8, width: u16, height: u16, values: &[u16], room: &mut [u16]
 }
 
 // Room for the cells of a sheet, and a few more.
-pub fn room() -> [u16; 5320]
-    ensures { λ r. ⌜ 5320 ≡ length r ⌝ }
+pub fn room() -> [u16; 8192]
+    ensures { λ r. ⌜ 8192 ≡ length r ⌝ }
 {
-    [0; 5320]
+    [0; 8192]
 }

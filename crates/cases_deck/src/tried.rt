@@ -11,17 +11,17 @@ ghost use Rattle.io.specs.Counts.{Counts};
 const UNTOUCHED: u16 = 7;
 
 // One byte more than the longest deck, so that surplus bytes are seen.
-fn dots() -> [u8; 5914]
-    ensures { λ r. ⌜ 5914 ≡ length r ⌝ }
+fn dots() -> [u8; 11746]
+    ensures { λ r. ⌜ 11746 ≡ length r ⌝ }
 {
-    [b'.'; 5914]
+    [b'.'; 11746]
 }
 
 // One entry more than the reader's cell table.
-fn untouched() -> [u16; 5185]
-    ensures { λ r. ⌜ 5185 ≡ length r ⌝ }
+fn untouched() -> [u16; 7921]
+    ensures { λ r. ⌜ 7921 ≡ length r ⌝ }
 {
-    [UNTOUCHED; 5185]
+    [UNTOUCHED; 7921]
 }
 
 // A length, or that of the bytes where it is more.

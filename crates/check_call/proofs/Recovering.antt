@@ -78,7 +78,7 @@ module _ (w h : ℕ) (s l : List ℕ) where
     pub recovering-fit : within w h ≡ true → i < w * h → dart (p + 2) 3 < mark
     unfolding dart mark
     recovering-fit e b =
-        omega (arith, f .line, div-le-self i w, cells-fit w h e, within-limits w h e .widest)
+        omega (arith, f .line, div-le-self i w, cells-fit w h e, within-limits w h e .width-most)
 
     -- and are those of the sheet
     pub recovering-in : 0 < w → i < w * h → dart p 3 < slots w h

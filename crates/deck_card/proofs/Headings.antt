@@ -1,21 +1,28 @@
--- The content of a header: ten bytes.
---   heading w h     == the content of the header of a sheet of width w and height h
-use mathlib.Core.List.{List, [], _∷_, _++_}
+-- The content of a header: eleven bytes.
+--   heading w h     == columns 1 to 11 of the header of a sheet of width w and height h
+--   laid b w h      == the same, in the wide form where b is true, else in the other
 use mathlib.Core.Path.{_≡_, refl}
+use mathlib.Core.Bool.{Bool, true, false}
+use mathlib.Core.List.{List, [], _∷_, _++_}
 use Prim.Native.Nat.{ℕ, zero, suc, _≤_, _<_}
 use native.Mathlib.Omega.{arith}
 use lib.Dec.{T, ltb, lit<}
 use lib.ListN.{length, getD}
 use Rattle.deck_card.specs.Card.{columns, blank, digit, digits}
-use Rattle.deck_card.specs.Layout.{heading}
+use Rattle.deck_card.specs.Layout.{wide, laid, heading}
 
-pub length-heading : (w h : ℕ) → length (heading w h) ≡ 10
-unfolding heading digits
-length-heading w h = refl
+pub length-laid : (b : Bool) (w h : ℕ) → length (laid b w h) ≡ 11
+unfolding laid digits
+length-laid true w h = refl
+length-laid false w h = refl
+
+pub laid-fits : (b : Bool) (w h : ℕ) → length (laid b w h) ≤ columns
+unfolding columns
+laid-fits b w h = rw length-laid (omega arith)
 
 pub heading-fits : (w h : ℕ) → length (heading w h) ≤ columns
-unfolding columns
-heading-fits w h = rw length-heading (omega arith)
+unfolding heading
+heading-fits w h = laid-fits (wide w) w h
 
 digit-byte : (n k : ℕ) → digit n k < 256
 unfolding digit
@@ -42,13 +49,15 @@ bytes-digits zero n b = b
 bytes-digits (suc k) n b = bytes-cons (digit-byte n k) (bytes-digits k n b)
 
 pub heading-bytes : (w h i : ℕ) → getD (heading w h) i 0 < 256
-unfolding heading blank digits
-heading-bytes w h i = all .byte i
+unfolding heading laid blank digits
+heading-bytes w h i = all (wide w) .byte i
   where
     letter : {x : ℕ} {l : List ℕ} → T (ltb x 256) → Bytes l → Bytes (x ∷ l)
     letter t b = bytes-cons (lit< t) b
 
-    all : Bytes (heading w h)
-    all =
-        let size = bytes-digits 2 w (bytes-digits 2 h bytes-none) in
-        letter tt (letter tt (letter tt (letter tt (letter tt (letter tt size)))))
+    sheet : {l : List ℕ} → Bytes l → Bytes (83 ∷ 72 ∷ 69 ∷ 69 ∷ 84 ∷ l)
+    sheet b = letter tt (letter tt (letter tt (letter tt (letter tt b))))
+
+    all : (b : Bool) → Bytes (laid b w h)
+    all true = sheet (letter tt (bytes-digits 3 w (bytes-digits 2 h bytes-none)))
+    all false = sheet (letter tt (bytes-digits 2 w (bytes-digits 2 h (letter tt bytes-none))))

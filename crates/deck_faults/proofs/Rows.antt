@@ -1,11 +1,11 @@
 -- A card that is not refused is the card of its number and its content, and such a card is not refused.
 --   card k c        == the card numbered k with the content c
 use mathlib.Core.Path.{_≡_, refl, sym, ap, _∙_}
-use mathlib.Core.Bool.{true}
+use mathlib.Core.Bool.{Bool, true, false, cond}
 use mathlib.Core.List.{List, [], _∷_, _++_, append-assoc}
-use Prim.Native.Nat.{ℕ, suc, _+_, _-_, _≤_, _<_}
+use Prim.Native.Nat.{ℕ, suc, _+_, _*_, _-_, _≤_, _<_}
 use native.Mathlib.Omega.{arith}
-use lib.Dec.{lit<}
+use lib.Dec.{T, eqb, ltb, lit<}
 use lib.ListN.{length, getD, take, drop, replicate, length-drop, take-append-drop, drop-of-length-le}
 use lib.Seq.{slice, take-at, drop-at, length-take-le, drop-cons, take-take}
 use borrow.Author.Tests.{ne-eqb}
@@ -18,11 +18,12 @@ use Rattle.laws.specs.Every.{every}
 use Rattle.deck_card.specs.Card.{columns, places, long, blank, feed, visible, digit, digits, padded, card}
 use Rattle.deck_card.specs.Card.{whole}
 use Rattle.deck_card.proofs.Parts.{is-whole, whole-is}
-use Rattle.deck_card.specs.Layout.{heading}
+use Rattle.deck_card.specs.Layout.{wide, laid, heading}
 use Rattle.deck_card.proofs.Cards.{length-card, card-content, card-feed, card-columns, card-number}
 use Rattle.deck_card.proofs.Every.{every-blank, every-blanks}
-use Rattle.deck_card.proofs.Headings.{length-heading, heading-fits}
-use Rattle.deck_faults.specs.Fault.{bears, form, value, width, height, headed, header, row}
+use Rattle.deck_card.proofs.Headings.{length-laid, laid-fits, heading-fits}
+use Rattle.deck_card.proofs.Sizes.{narrow-most}
+use Rattle.deck_faults.specs.Fault.{bears, form, value, wideForm, width, height, headed, header, row}
 use Rattle.deck_faults.proofs.Forms.{header-is, header-form, header-headed, row-is, row-none, form-none}
 
 -- A card with a content that fits it.
@@ -84,28 +85,56 @@ row-card w k c h e =
     ∙ ap (λ x. take w c ++ replicate x blank) b in
     formed-is k c (r .form-is) ∙ ap (λ x. x ++ (digits places k ++ (feed ∷ []))) content
 
--- Two digits are read as they are written.
-value-digits : (n : ℕ) → n < 100 → value (digit n 1) (digit n 0) ≡ n
+-- Digits are read as they are written.
+two-digits : (n : ℕ) → n < 100 → value (digit n 1) (digit n 0) ≡ n
 unfolding value digit
-value-digits n h = omega arith
+two-digits n h = omega arith
 
--- a column of a header
-heading-at : (w h i : ℕ) → i < 10 → getD (card 1 (heading w h)) i 0 ≡ getD (heading w h) i 0
-heading-at w h i b = card-content 1 (heading w h) (heading-fits w h) i (rw length-heading b)
+three-digits : (n : ℕ) → n < 1000 → 10 * value (digit n 2) (digit n 1) + (digit n 0 - 48) ≡ n
+unfolding value digit
+three-digits n h = omega arith
+
+-- A header whose columns are laid out in a form names the width and the height.
+module _ (b : Bool) (w h : ℕ) where
+  laid-at : (i : ℕ) → T (ltb i 11) → getD (card 1 (laid b w h)) i 0 ≡ getD (laid b w h) i 0
+  laid-at i n = card-content 1 (laid b w h) (laid-fits b w h) i (rw length-laid (lit< n))
+
+  -- the column that tells its form
+  laid-form : wideForm (card 1 (laid b w h)) ≡ b
+  unfolding wideForm laid blank
+  laid-form = rw (laid-at 5 tt) (go b)
+    where
+      go : (b : Bool) → eqb (getD (laid b w h) 5 0) 50 ≡ b
+      go true = refl
+      go false = refl
+
+laid-width : (b : Bool) (w h : ℕ) → w < cond b 1000 100 → width (card 1 (laid b w h)) ≡ w
+unfolding width laid digits
+laid-width true w h n =
+    rw (laid-form true w h, laid-at true w h 6 tt, laid-at true w h 7 tt, laid-at true w h 8 tt) (three-digits w n)
+laid-width false w h n =
+    rw (laid-form false w h, laid-at false w h 6 tt, laid-at false w h 7 tt) (two-digits w n)
+
+laid-height : (b : Bool) (w h : ℕ) → h < 100 → height (card 1 (laid b w h)) ≡ h
+unfolding height laid digits
+laid-height true w h n =
+    rw (laid-form true w h, laid-at true w h 9 tt, laid-at true w h 10 tt) (two-digits h n)
+laid-height false w h n =
+    rw (laid-form false w h, laid-at false w h 8 tt, laid-at false w h 9 tt) (two-digits h n)
 
 -- The header of a sheet of a size that is one.
 module _ (w h : ℕ) (size : within w h ≡ true) where
   pub heading-width : width (card 1 (heading w h)) ≡ w
-  unfolding width heading digits
-  heading-width =
-      let i = within-limits w h size .widest in
-      (λ j. value (heading-at w h 6 (lit< tt) j) (heading-at w h 7 (lit< tt) j)) ∙ value-digits w (omega arith)
+  unfolding heading columns
+  heading-width = laid-width (wide w) w h (go (wide w) refl)
+    where
+      go : (b : Bool) → wide w ≡ b → w < cond b 1000 100
+      go true e = omega (arith, within-limits w h size .width-most)
+      go false e = omega (arith, narrow-most w e)
 
   pub heading-height : height (card 1 (heading w h)) ≡ h
-  unfolding height heading digits
-  heading-height =
-      let i = within-limits w h size .highest in
-      (λ j. value (heading-at w h 8 (lit< tt) j) (heading-at w h 9 (lit< tt) j)) ∙ value-digits h (omega arith)
+  unfolding heading
+  heading-height = laid-height (wide w) w h (omega (arith, within-limits w h size .height-most))
 
   -- it is not refused
   pub heading-header : header (card 1 (heading w h)) ≡ 0

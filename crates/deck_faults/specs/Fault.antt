@@ -5,9 +5,10 @@
 --   form k c        == the refusal of the form of the card numbered k, whatever its content: 25 not there, 20 not whole, so
 --                      not 80 bytes and a line feed, 22 not bearing its number
 --   value a b       == the number whose two digits are the bytes a and b
---   width c, height c == the values of columns 7-8 and 9-10 of a header
---   headed c        == these are a size, and columns 1 to 72 are laid out as the header of this size: so the four columns
---                      are digits
+--   wideForm c      == column 6 of a header is a 2
+--   width c, height c == the values of columns 7-8 and 9-10 of a header, in the wide form of 7-9 and 10-11
+--   headed c        == these are a size, and columns 1 to 72 are laid out as the header of this size: so these columns are
+--                      digits, and the form is that of the width
 --   header c        == the refusal of a header: its form's, then 21
 --   row w k c       == the refusal of the card numbered k with w cells: its form's, then from the left 23 for a cell that
 --                      is not visible and 24 for a column after the cells that is not blank
@@ -35,11 +36,14 @@ form k c = cond (eqb (length c) 0) 25 (cond (whole c) (cond (bears k c) 0 22) 20
 unfoldable pub value : ℕ → ℕ → ℕ
 value a b = 10 * (a - 48) + (b - 48)
 
+unfoldable pub wideForm : List ℕ → Bool
+wideForm c = eqb (getD c 5 0) 50
+
 unfoldable pub width : List ℕ → ℕ
-width c = value (getD c 6 0) (getD c 7 0)
+width c = let two = value (getD c 6 0) (getD c 7 0) in cond (wideForm c) (10 * two + (getD c 8 0 - 48)) two
 
 unfoldable pub height : List ℕ → ℕ
-height c = value (getD c 8 0) (getD c 9 0)
+height c = cond (wideForm c) (value (getD c 9 0) (getD c 10 0)) (value (getD c 8 0) (getD c 9 0))
 
 unfoldable pub headed : List ℕ → Bool
 headed c = within (width c) (height c) && equal (take columns c) (padded (heading (width c) (height c)))

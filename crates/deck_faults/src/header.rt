@@ -5,7 +5,7 @@ use deck_card::layout;
 ghost use mathlib.Core.Path.{_≡_};
 ghost use Prim.Native.Nat.{_-_};
 ghost use lib.ListN.{getD};
-ghost use Rattle.deck_faults.specs.Fault.{value, width, height, header};
+ghost use Rattle.deck_faults.specs.Fault.{value, wideForm, width, height, header};
 
 // The byte at a place, 0 past the end.
 fn at(bytes: &[u8], place: usize) -> u8
@@ -28,18 +28,34 @@ fn value(tens: u8, ones: u8) -> u16
     10 * worth(tens) + worth(ones)
 }
 
+// Whether a header has the wide form: SHEET2.
+fn wide_form(card: &[u8]) -> bool
+    ensures { λ r. ⌜ r ≡ wideForm (now (card .entry)) ⌝ }
+{
+    at(card, 5) == 50
+}
+
 // The width that a header names.
 pub fn width(card: &[u8]) -> u16
     ensures { λ r. ⌜ r ≡ width (now (card .entry)) ⌝ }
 {
-    value(at(card, 6), at(card, 7))
+    let two = value(at(card, 6), at(card, 7));
+    if wide_form(card) {
+        10 * two + worth(at(card, 8))
+    } else {
+        two
+    }
 }
 
 // The height that a header names.
 pub fn height(card: &[u8]) -> u16
     ensures { λ r. ⌜ r ≡ height (now (card .entry)) ⌝ }
 {
-    value(at(card, 8), at(card, 9))
+    if wide_form(card) {
+        value(at(card, 9), at(card, 10))
+    } else {
+        value(at(card, 8), at(card, 9))
+    }
 }
 
 // The refusal of a header: its form's, or 21 where it is not the header of the size that it names, or the size is none;

@@ -5,6 +5,10 @@
 --   punched n c     == the card with the bytes c, then blanks to column 72, and the number n, which has one digit
 --   top a b         == the header of a sheet one cell high whose width has the digits a and b
 --   deck            == the deck of the sheet A B
+--   wide-top a b c  == the header, in the wide form, of a sheet one cell high whose width has the digits a, b and c
+--   row73           == the cells of a row 73 wide: A 72 times, and B
+--   first           == the header and the first card of its sheet
+--   wide-deck       == the deck of its sheet
 use mathlib.Core.Path.{_≡_, refl}
 use mathlib.Core.Bool.{Bool, true, _&&_}
 use mathlib.Core.List.{List, [], _∷_, _++_, map}
@@ -17,12 +21,12 @@ use Rattle.laws.specs.Every.{every}
 use Rattle.laws.proofs.Cases.{Case, failed, none-failed}
 use Rattle.laws.proofs.Equal.{equal-true}
 use Rattle.laws.proofs.Test.{and-left, and-right}
-use Rattle.sheet_size.specs.Size.{widest, within}
+use Rattle.sheet_size.specs.Size.{within}
 use Rattle.deck_card.specs.Card.{columns, places, long, blank, feed, fromTo, lowest, highest, visible, digit, digits, padded, card}
 use Rattle.deck_card.specs.Card.{whole, measured, part}
-use Rattle.deck_card.specs.Layout.{heading, rowCards, held}
+use Rattle.deck_card.specs.Layout.{wide, laid, heading, rowCards, held}
 use Rattle.deck_card.specs.Outcome.{DeckOutcome, readOutcome, writeOutcome}
-use Rattle.deck_faults.specs.Fault.{orElse, bears, form, value, width, height, headed, header, row}
+use Rattle.deck_faults.specs.Fault.{orElse, bears, form, value, wideForm, width, height, headed, header, row}
 use Rattle.deck_writing.specs.Writing.{rowDeck, deckOf, deckLength, written, bytesAfter, writing}
 use Rattle.deck_reading.specs.Judging.{stopped, rows, judged}
 use Rattle.deck_reading.specs.Reading.{room, cells, filled, tableAfter, reading}
@@ -53,14 +57,26 @@ top a b = punched 1 (83 ∷ 72 ∷ 69 ∷ 69 ∷ 84 ∷ 32 ∷ a ∷ b ∷ 48 �
 deck : List ℕ
 deck = top 48 50 ++ punched 2 (65 ∷ 66 ∷ [])
 
+wide-top : ℕ → ℕ → ℕ → List ℕ
+wide-top a b c = punched 1 (83 ∷ 72 ∷ 69 ∷ 69 ∷ 84 ∷ 50 ∷ a ∷ b ∷ c ∷ 48 ∷ 49 ∷ [])
+
+row73 : List ℕ
+row73 = replicate 72 65 ++ 66 ∷ []
+
+first : List ℕ
+first = wide-top 48 55 51 ++ punched 2 (replicate 72 65)
+
+wide-deck : List ℕ
+wide-deck = first ++ punched 3 (66 ∷ [])
+
 -- the reader's cell table
 lent : List ℕ
-lent = replicate 5184 7
+lent = replicate 7920 7
 
 calls : List (Case DeckOutcome)
 calls =
     -- reading
-    record { computed = reading [] (replicate 5183 7); stated = ends 26 (0 ∷ []) (replicate 5183 7) }
+    record { computed = reading [] (replicate 7919 7); stated = ends 26 (0 ∷ []) (replicate 7919 7) }
     ∷ record { computed = reading [] lent; stated = ends 25 (1 ∷ []) lent }
     ∷ record { computed = reading (take 80 (top 48 48)) lent; stated = ends 20 (1 ∷ []) lent }
     ∷ record { computed = reading (punched 2 []) lent; stated = ends 22 (1 ∷ []) lent }
@@ -73,9 +89,22 @@ calls =
     ∷ record { computed = reading (top 48 50 ++ punched 2 (127 ∷ 66 ∷ [])) lent; stated = ends 23 (2 ∷ []) lent }
     ∷ record { computed = reading (top 48 50 ++ punched 2 (65 ∷ 66 ∷ 67 ∷ []) ++ 10 ∷ []) lent; stated = ends 24 (2 ∷ []) lent }
     ∷ record { computed = reading (deck ++ 10 ∷ []) lent; stated = ends 25 (3 ∷ []) lent }
-    ∷ record { computed = reading deck lent; stated = ends 0 (2 ∷ 1 ∷ []) (65 ∷ 66 ∷ replicate 5182 0) }
+    ∷ record { computed = reading deck lent; stated = ends 0 (2 ∷ 1 ∷ []) (65 ∷ 66 ∷ replicate 7918 0) }
+    -- reading the wide form: its widths, its two cards a row, and what follows them
+    ∷ record { computed = reading (wide-top 48 55 50) lent; stated = ends 21 (1 ∷ []) lent }
+    ∷ record { computed = reading (wide-top 49 49 49) lent; stated = ends 21 (1 ∷ []) lent }
+    ∷ record { computed = reading (wide-top 49 49 48) lent; stated = ends 25 (2 ∷ []) lent }
+    ∷ record { computed = reading (wide-top 48 55 51 ++ punched 2 (replicate 71 65)) lent; stated = ends 23 (2 ∷ []) lent }
+    ∷ record { computed = reading first lent; stated = ends 25 (3 ∷ []) lent }
+    ∷ record { computed = reading (first ++ punched 3 []) lent; stated = ends 23 (3 ∷ []) lent }
+    ∷ record { computed = reading (first ++ punched 3 (66 ∷ 67 ∷ [])) lent; stated = ends 24 (3 ∷ []) lent }
+    ∷ record { computed = reading (wide-deck ++ 10 ∷ []) lent; stated = ends 25 (4 ∷ []) lent }
+    ∷ record { computed = reading wide-deck lent; stated = ends 0 (73 ∷ 1 ∷ []) (row73 ++ replicate 7847 0) }
     -- writing
-    ∷ record { computed = writing 73 1 [] (7 ∷ []); stated = ends 1 [] (7 ∷ []) }
+    ∷ record { computed = writing 111 1 [] (7 ∷ []); stated = ends 1 [] (7 ∷ []) }
+    ∷ record { computed = writing 1 73 [] (7 ∷ []); stated = ends 1 [] (7 ∷ []) }
+    ∷ record { computed = writing 73 1 row73 (replicate 162 7); stated = ends 4 [] (replicate 162 7) }
+    ∷ record { computed = writing 73 1 row73 (replicate 243 7); stated = ends 0 [] wide-deck }
     ∷ record { computed = writing 2 1 (32 ∷ []) (7 ∷ []); stated = ends 3 [] (7 ∷ []) }
     ∷ record { computed = writing 2 1 (65 ∷ 32 ∷ []) (replicate 163 7); stated = ends 4 [] (replicate 163 7) }
     ∷ record { computed = writing 2 1 (65 ∷ 32 ∷ []) (replicate 162 7); stated = ends 27 [] (replicate 162 7) }
@@ -84,11 +113,11 @@ calls =
     ∷ []
 
 cards-open : Unit {0}
-unfolding equal every widest within columns places long blank feed fromTo lowest highest visible digit digits padded card whole
+unfolding equal every within columns places long blank feed fromTo lowest highest visible digit digits padded card whole
 cards-open = tt
 
 decks-open : Unit {0}
-unfolding measured part heading rowCards held readOutcome writeOutcome orElse bears form value width height headed header row
+unfolding measured part wide laid heading rowCards held readOutcome writeOutcome orElse bears form value wideForm width height headed header row
 decks-open = tt
 
 outcomes-open : Unit {0}
@@ -96,7 +125,7 @@ unfolding rowDeck deckOf deckLength written bytesAfter writing stopped rows judg
 outcomes-open = tt
 
 calls-hold : failed same-outcome 0 calls ≡ []
-unfolding failed cards-open decks-open outcomes-open same-outcome ends punched top deck lent calls
+unfolding failed cards-open decks-open outcomes-open same-outcome ends punched top deck wide-top row73 first wide-deck lent calls
 calls-hold = refl
 
 deck-cases : map (λ (c : Case DeckOutcome). c .computed) calls ≡ map (λ (c : Case DeckOutcome). c .stated) calls

@@ -17,7 +17,7 @@ use Rattle.deck_card.specs.Layout.{rowCards, held}
 use Rattle.deck_reading.specs.Judging.{judged}
 
 unfoldable pub room : ℕ
-room = 5184
+room = 7920
 
 unfoldable pub cells : ℕ → ℕ → ℕ → List ℕ → List ℕ
 cells w zero k d = []

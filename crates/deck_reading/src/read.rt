@@ -13,7 +13,7 @@ ghost use Rattle.deck_reading.specs.Judging.{judged};
 ghost use Rattle.deck_reading.specs.Reading.{room, cells, filled, reading};
 
 // The length of the reader's cell table.
-pub const CELLS: usize = 5184;
+pub const CELLS: usize = 7920;
 
 // Copies the cells of a deck that reads as a sheet into the cell table, and sets the rest of it to 0.
 fn fill(deck: &[u8], width: u16, height: u16, table: &mut [u16])
@@ -39,7 +39,7 @@ fn fill(deck: &[u8], width: u16, height: u16, table: &mut [u16])
 }
 
 // Reads a deck: answers the width and the height of its sheet, with the cells in row order at the front of the cell table
-// and 0 after them. Refusals, each with the number of the card: 26 where the table's length is not 5,184, then card by
+// and 0 after them. Refusals, each with the number of the card: 26 where the table's length is not 7,920, then card by
 // card 25, 20, 22, then 21 for the header or 23 and 24 from the left for a row, and last 25 for bytes after the last
 // card. A refusal leaves the table as it was.
 pub fn read(deck: &[u8], cells: &mut [u16]) -> Read

@@ -12,17 +12,21 @@ ghost use mathlib.Core.Path.{_≡_};
 ghost use mathlib.Core.Bool.{true};
 ghost use Prim.Native.Nat.{_*_, _≤_};
 ghost use lib.ListN.{length};
-ghost use Rattle.sheet_size.specs.Size.{within};
+ghost use Rattle.sheet_size.specs.Size.{widest, tallest, within};
 ghost use Rattle.point_darts.specs.Dart.{slots};
+ghost use Rattle.listing.specs.Room.{room};
 
-// The greatest width and the greatest height.
+// The greatest width.
 const WIDEST: usize = sheet_size::WIDEST as usize;
 
-// The most slots of darts of a sheet, which are more than its names.
-const SLOTS: usize = 4 * (WIDEST + 1) * (WIDEST + 1);
+// The greatest height.
+const TALLEST: usize = sheet_size::TALLEST as usize;
 
-// The bytes of the longest deck, and one more, so that bytes after its last card are seen.
-const BYTES: usize = LONG * (WIDEST + 1) + 1;
+// The most slots of darts of a sheet, which are more than its names.
+const SLOTS: usize = 4 * (WIDEST + 1) * (TALLEST + 1);
+
+// The bytes of the longest deck, which has two cards a row, and one more, so that bytes after its last card are seen.
+const BYTES: usize = LONG * (2 * TALLEST + 1) + 1;
 
 // The five tables of a drawing, each with room for the largest.
 struct Tables {
@@ -42,7 +46,7 @@ struct Counted {
 
 // Draws a sheet. One that was read is not refused; were it, the tables would be no drawing.
 fn draw(width: u16, height: u16, sheet: &[u16], slots: usize, names: usize) -> Tables
-    requires { ⌜ (slots ≤ 21316) × (names ≤ 21316) ⌝ }
+    requires { ⌜ (slots ≤ room) × (names ≤ room) ⌝ }
 {
     let mut next1 = [0u16; SLOTS];
     let mut side1 = [0u16; SLOTS];
@@ -87,7 +91,7 @@ fn front(table: &[u16; SLOTS], length: usize) -> &[u16] {
 
 // Counts the depths and holes of a drawing.
 fn count(width: u16, height: u16, slots: usize, names: usize, tables: Tables) -> Counted
-    requires { ⌜ (slots ≤ 21316) × (names ≤ 21316) ⌝ }
+    requires { ⌜ (slots ≤ room) × (names ≤ room) ⌝ }
 {
     let next1 = tables.next1;
     let side1 = tables.side1;
@@ -124,7 +128,7 @@ fn count(width: u16, height: u16, slots: usize, names: usize, tables: Tables) ->
 
 // Lists a drawing. One of a sheet that was read is not refused; were it, there would be no listing.
 fn list_drawing(width: u16, height: u16, sheet: &[u16], slots: usize, names: usize, tables: Tables)
-    requires { ⌜ (slots ≤ 21316) × (names ≤ 21316) ⌝ }
+    requires { ⌜ (slots ≤ room) × (names ≤ room) ⌝ }
 {
     let counted = count(width, height, slots, names, tables);
     if counted.number != 0 {
@@ -150,7 +154,7 @@ fn list_drawing(width: u16, height: u16, sheet: &[u16], slots: usize, names: usi
 // How many cells a sheet has.
 fn cells_of(width: u16, height: u16) -> usize
     requires { ⌜ within width height ≡ true ⌝ }
-    ensures { λ r. ⌜ (r ≡ width * height) × (r ≤ 5184) ⌝ }
+    ensures { λ r. ⌜ (r ≡ width * height) × (r ≤ widest * tallest) ⌝ }
 {
     (width * height) as usize
 }
@@ -158,7 +162,7 @@ fn cells_of(width: u16, height: u16) -> usize
 // How many slots of darts a sheet has.
 fn slots_of(width: u16, height: u16) -> usize
     requires { ⌜ within width height ≡ true ⌝ }
-    ensures { λ r. ⌜ (r ≡ slots width height) × (r ≤ 21316) ⌝ }
+    ensures { λ r. ⌜ (r ≡ slots width height) × (r ≤ room) ⌝ }
 {
     dart::slots(width, height) as usize
 }
@@ -166,7 +170,7 @@ fn slots_of(width: u16, height: u16) -> usize
 // Lists a sheet, whose cells stand at the front of a table. A deck that is read gives a size; were it none, there would be
 // no listing.
 fn list_sheet(width: u16, height: u16, cells: &[u16])
-    requires { ⌜ length (now cells) ≡ 5184 ⌝ }
+    requires { ⌜ length (now cells) ≡ widest * tallest ⌝ }
 {
     if !sheet_size::within(width, height) {
         return;

@@ -194,7 +194,7 @@ beside-claims =
     ∷ record { computed = map (innerContours 3 3 (names 3 3 p5)) (0 ∷ 1 ∷ 5 ∷ []); stated = 1 ∷ 1 ∷ 0 ∷ [] }
     ∷ record { computed = map (innerContours 4 3 (names 4 3 two-parcels)) (0 ∷ 1 ∷ 6 ∷ []); stated = 1 ∷ 1 ∷ 0 ∷ [] }
     -- the limits of width and height
-    ∷ record { computed = map (λ n. number (within n 1)) (0 ∷ 1 ∷ 72 ∷ 73 ∷ []); stated = 0 ∷ 1 ∷ 1 ∷ 0 ∷ [] }
+    ∷ record { computed = map (λ n. number (within n 1)) (0 ∷ 1 ∷ 110 ∷ 111 ∷ []); stated = 0 ∷ 1 ∷ 1 ∷ 0 ∷ [] }
     ∷ record { computed = map (λ n. number (within 1 n)) (0 ∷ 1 ∷ 72 ∷ 73 ∷ []); stated = 0 ∷ 1 ∷ 1 ∷ 0 ∷ [] }
     -- a join at whose point two taken lines are met one after another
     ∷ record { computed = (joined 3 3 (drawing 3 3 open-ring) 1 2) .next1; stated = (drawing 3 3 p5) .next1 }

@@ -4,7 +4,7 @@ use Rattle.laws.specs.Table.{table, count, some}
 use Rattle.laws.specs.First.{firstFailed}
 use Rattle.laws.specs.Least.{lower, tie, ties, least}
 use Rattle.laws.specs.Run.{run}
-use Rattle.sheet_size.specs.Size.{widest, within}
+use Rattle.sheet_size.specs.Size.{within}
 use Rattle.point_darts.specs.Dart.{mark, points, slots, dart, point, direction, beside, far, turned, reversal, stays, line}
 use Rattle.point_darts.specs.Point.{bits, half, has, corner, right, left, parts, present, degree, inline}
 use Rattle.point_rules.specs.Turn.{turn}
@@ -26,7 +26,7 @@ unfolding table count some lower tie ties least run firstFailed
 laws-open = tt
 
 points-open : Unit {0}
-unfolding widest within mark points slots dart point direction beside far turned reversal stays line turn
+unfolding within mark points slots dart point direction beside far turned reversal stays line turn
 points-open = tt
 
 masks-open : Unit {0}

@@ -129,7 +129,7 @@ calls =
       stated = ended 0 [] (anchored 14 0 1 ∷ anchored 14 1 0 ∷ anchored 14 1 0 ∷ []) (clean 16);
     }
     -- whole drawing
-    ∷ record { computed = mapped 73 1 [] (rubbish 3) (works 16 17); stated = refused 1 (five (rubbish 3)) (works 16 17) }
+    ∷ record { computed = mapped 111 1 [] (rubbish 3) (works 16 17); stated = refused 1 (five (rubbish 3)) (works 16 17) }
     ∷ record { computed = mapped 1 1 [] (rubbish 3) (works 16 17); stated = refused 3 (five (rubbish 3)) (works 16 17) }
     ∷ record { computed = mapped 1 1 (65 ∷ []) (rubbish 3) (works 16 16); stated = refused 4 (five (rubbish 3)) (works 16 16) }
     ∷ record { computed = mapped 1 1 (65 ∷ []) (rubbish 2) (works 16 17); stated = refused 4 (five (rubbish 2)) (works 16 17) }
@@ -148,7 +148,7 @@ calls =
     ∷ record { computed = merged 2 1 two 1 2 (works 24 24); stated = ended 0 [] (five joined-two) (clean 24) }
     ∷ record { computed = merged 2 1 two 2 1 (works 24 24); stated = ended 0 [] (five joined-two) (clean 24) }
     -- depth
-    ∷ record { computed = deepened 73 1 (rubbish 3) 9 (works 16 17); stated = refused 1 (five (rubbish 3)) (works 16 17) }
+    ∷ record { computed = deepened 111 1 (rubbish 3) 9 (works 16 17); stated = refused 1 (five (rubbish 3)) (works 16 17) }
     ∷ record { computed = deepened 1 1 (rubbish 2) 9 (works 16 17); stated = refused 4 (five (rubbish 2)) (works 16 17) }
     ∷ record { computed = deepened 1 1 (rubbish 2) 9 (works 16 16); stated = refused 5 (five (rubbish 2)) (clean 16) }
     ∷ record { computed = deepened 2 1 two 3 (works 24 24); stated = refused 8 (five two) (clean 24) }

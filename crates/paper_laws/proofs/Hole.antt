@@ -297,4 +297,4 @@ pub outside-hole : (w h : ℕ) (s : List ℕ) → within w h ≡ true
 unfolding mark
 outside-hole w h s e =
     let l = within-limits w h e in
-    holes-pieces w h s (within-fits w h e) 0 (λ q. omega (arith, q)) ∙ outside-piece w h s (l .wide) (l .high)
+    holes-pieces w h s (within-fits w h e) 0 (λ q. omega (arith, q)) ∙ outside-piece w h s (l .width-some) (l .height-some)

@@ -6,7 +6,7 @@ use mathlib.Core.Path.{_≡_, refl, sym, ap, _∙_}
 use mathlib.Core.Bool.{Bool, true, false, cond, not, _&&_}
 use mathlib.Core.List.{List}
 use Prim.Native.Nat.{ℕ, zero, suc, _+_, _*_, _/_, _%_, _≤_, _<_, zero-le}
-use native.Mathlib.Nat.{mul-suc, add-mul, mul-le-mul}
+use native.Mathlib.Nat.{mul-suc, add-mul}
 use native.Mathlib.Numerals.{add-one}
 use native.Mathlib.Decide.{decLt}
 use native.Mathlib.Omega.{arith}
@@ -20,8 +20,8 @@ use Rattle.laws.proofs.Walk.{run-stays}
 use Rattle.sheet_size.specs.Size.{within}
 use Rattle.point_darts.specs.Dart.{mark, points, slots, point, direction, far}
 use Rattle.point_darts.specs.Point.{right, corner}
-use Rattle.sheet_size.proofs.Limit.{within-limits}
 use Rattle.point_darts.proofs.Darts.{four, direction-below, line-below}
+use Rattle.point_darts.proofs.Fit.{points-fit}
 use Rattle.paper.specs.Name.{names, named, cells}
 use Rattle.paper.specs.Level.{side, next, last, along, marked}
 use Rattle.paper.specs.Joining.{at, on}
@@ -101,13 +101,9 @@ unfolding slots points
 cells-slots w h = rw (add-one h, mul-suc (w + 1) h, add-mul w 1 h) (omega arith)
 
 -- How many slots a sheet of a size that is one has at most.
-pub slots-most : (w h : ℕ) → within w h ≡ true → slots w h ≤ 21316
-unfolding slots points
-slots-most w h e =
-    let l = within-limits w h e in
-    let a : w + 1 ≤ 73 = omega arith in
-    let b : h + 1 ≤ 73 = omega arith in
-    omega (arith, mul-le-mul a b)
+pub slots-most : (w h : ℕ) → within w h ≡ true → slots w h ≤ 32412
+unfolding slots
+slots-most w h e = omega (arith, points-fit w h e)
 
 -- So every dart is below the mark, and so are every point and every name.
 pub within-fits : (w h : ℕ) → within w h ≡ true → slots w h ≤ mark

@@ -6,19 +6,19 @@ use native.Mathlib.Nat.{mod-lt, div-add-mod', mul-le-mul}
 use native.Mathlib.Omega.{arith}
 use lib.Dec.{leb}
 use borrow.Author.Tests.{leb-true}
-use Rattle.sheet_size.specs.Size.{within}
+use Rattle.sheet_size.specs.Size.{widest, tallest, within}
 use Rattle.point_darts.specs.Dart.{mark, dart, point, direction, beside, far, turned, reversal, stays, line, reversed}
 use Rattle.laws.proofs.Test.{and-left, and-right}
 use Rattle.sheet_size.proofs.Limit.{Within, within-limits}
 
 -- the points of a sheet are few
-low : (w h p : ℕ) → Within w h → p / (w + 1) ≤ h → p ≤ 5328
+low : (w h p : ℕ) → Within w h → p / (w + 1) ≤ h → p < (widest + 1) * (tallest + 1)
 low w h p s e =
     omega (
       arith,
       div-add-mod' p (w + 1),
       mod-lt p {m = w + 1} (omega arith),
-      mul-le-mul {n₁ = p / (w + 1)} {m₁ = w + 1} {n₂ = 72} {m₂ = 73} (omega arith) (omega arith),
+      mul-le-mul {n₁ = p / (w + 1)} {m₁ = w + 1} {n₂ = tallest} {m₂ = widest + 1} (omega arith) (omega arith),
     )
 
 -- the point beside a point is at most a row further on
@@ -38,7 +38,7 @@ line-row w h d e =
 -- a size that is one, and a line on the sheet
 pub record OnSheet (w h d : ℕ) : Type 0 where
   pub size : Within w h
-  pub near : point d ≤ 5328
+  pub near : point d < (widest + 1) * (tallest + 1)
 
 pub on-sheet : (w h d : ℕ) → within w h && line w h d ≡ true → OnSheet w h d
 on-sheet w h d e =

@@ -2,8 +2,11 @@
 ghost use mathlib.Core.Path.{_≡_};
 ghost use Rattle.sheet_size.specs.Size.{within};
 
-// The greatest width and the greatest height.
-pub const WIDEST: u16 = 72;
+// The greatest width.
+pub const WIDEST: u16 = 110;
+
+// The greatest height.
+pub const TALLEST: u16 = 72;
 
 // Whether a width and a height are both 1 to the greatest.
 pub fn within(width: u16, height: u16) -> bool
@@ -18,5 +21,5 @@ pub fn within(width: u16, height: u16) -> bool
     if height < 1 {
         return false;
     }
-    height <= WIDEST
+    height <= TALLEST
 }

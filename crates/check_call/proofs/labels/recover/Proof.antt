@@ -37,7 +37,7 @@ label-at-requires : tie.Need-label-at-requires Inv-loop μ-loop
 label-at-requires c κs =
     let l = c .before in
     let s = l .before .before .before .before in
-    let z = within-limits _ _ (s .pre .0) .wide in
+    let z = within-limits _ _ (s .pre .0) .width-some in
     omega (arith, c .leaving .ensures, s .pre .1, recovering-in _ _ _ _ _ _ _ _ (l .before .loop .inv) z (l .loop-test .taken))
 
 cast-labels : tie.Need-cast-labels Inv-loop μ-loop
@@ -78,7 +78,7 @@ loop-again c =
     let t = c .before in
     let l = t .before .before in
     recovering-down _ _ _ _ _ _ _ _ (l .before .loop .inv) _ _ (t .before .leaving .ensures) (t .label-at .ensures)
-    (l .loop-test .taken) (within-limits _ _ (l .before .before .before .before .pre .0) .wide) (c .if1 .taken)
+    (l .loop-test .taken) (within-limits _ _ (l .before .before .before .before .pre .0) .width-some) (c .if1 .taken)
 
 loop-less-2 : tie.Need-loop-less-2 Inv-loop μ-loop
 loop-less-2 c = omega arith
@@ -88,7 +88,7 @@ loop-again-2 c =
     let t = c .before in
     let l = t .before .before in
     recovering-on _ _ _ _ _ _ _ _ (l .before .loop .inv) _ _ (t .before .leaving .ensures) (t .label-at .ensures)
-    (l .loop-test .taken) (within-limits _ _ (l .before .before .before .before .pre .0) .wide) (c .if1 .left)
+    (l .loop-test .taken) (within-limits _ _ (l .before .before .before .before .pre .0) .width-some) (c .if1 .left)
 
 same-length : tie.Need-same-length Inv-loop μ-loop
 same-length c = c .before .loop .inv .long ∙ sym (c .before .before .before .before .pre .2)

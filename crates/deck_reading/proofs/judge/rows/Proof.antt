@@ -22,7 +22,7 @@ abbrev μ-loop : tie.MeasureT-loop
 μ-loop deck width height rest₀ left₀ number₀ rest left number = left
 
 row-cards-requires : tie.Need-row-cards-requires Inv-loop μ-loop
-row-cards-requires c κs = tt
+row-cards-requires c κs = c .before .pre
 
 loop-holds : tie.Need-loop-holds Inv-loop μ-loop
 loop-holds c = (omega arith, rw (c .row-cards .ensures))

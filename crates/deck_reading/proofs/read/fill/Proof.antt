@@ -40,7 +40,7 @@ part-rest-end : tie.Need-part-rest-end Inv-loop μ-loop
 part-rest-end c = le-refl _
 
 row-cards-requires : tie.Need-row-cards-requires Inv-loop μ-loop
-row-cards-requires c κs = tt
+row-cards-requires c κs = deck-is (c .before .before .before) .size
 
 loop-holds : tie.Need-loop-holds Inv-loop μ-loop
 unfolding columns places long

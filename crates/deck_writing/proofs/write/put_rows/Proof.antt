@@ -24,7 +24,7 @@ abbrev μ-loop : tie.MeasureT-loop
 μ-loop width height sheet deck₀ rest₀ left₀ number₀ at₀ deck rest left number at = left
 
 row-cards-requires : tie.Need-row-cards-requires Inv-loop μ-loop
-row-cards-requires c κs = tt
+row-cards-requires c κs = c .before .before .pre .0
 
 loop-holds : tie.Need-loop-holds Inv-loop μ-loop
 unfolding columns places long

@@ -46,7 +46,7 @@ returns-2 c =
     writing-sheet (s .width) (s .height) (s .sheet .now) (s .deck .now) (size-is (c .before)) (c .if2 .taken)
 
 row-cards-requires : tie.Need-row-cards-requires
-row-cards-requires c κs = search needs
+row-cards-requires c κs = size-is (c .before)
 
 cast-if3 : tie.Need-cast-if3
 cast-if3 c = search needs

@@ -27,13 +27,13 @@ add-around : tie.Need-add-around
 add-around c =
     let p = c in
     let s = start p in
-    omega (arith, p .points .ensures, points-fit _ _ (s .pre .0), within-limits _ _ (s .pre .0) .widest)
+    omega (arith, p .points .ensures, points-fit _ _ (s .pre .0), within-limits _ _ (s .pre .0) .width-most)
 
 add-around-2 : tie.Need-add-around-2
 add-around-2 c =
     let p = c in
     let s = start p in
-    omega (arith, p .points .ensures, points-fit _ _ (s .pre .0), within-limits _ _ (s .pre .0) .widest)
+    omega (arith, p .points .ensures, points-fit _ _ (s .pre .0), within-limits _ _ (s .pre .0) .width-most)
 
 slice-aggregate-masks : tie.Need-slice-aggregate-masks
 slice-aggregate-masks c =

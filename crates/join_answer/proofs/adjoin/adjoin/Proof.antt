@@ -47,7 +47,7 @@ adjoin-part-requires c κs =
     let l = s .before in
     let q = start l .pre in (
       omega (arith, s .part-start .ensures),
-      omega (arith, l .before .loop .inv .0, q .1, points-fit _ _ (q .0), within-limits _ _ (q .0) .widest),
+      omega (arith, l .before .loop .inv .0, q .1, points-fit _ _ (q .0), within-limits _ _ (q .0) .width-most),
     )
 
 returns : tie.Need-returns Inv-loop μ-loop

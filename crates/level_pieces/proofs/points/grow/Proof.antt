@@ -1,6 +1,5 @@
 use native.Mathlib.Omega.{arith}
 use borrow.Author.Needs.{needs}
-use Rattle.sheet_size.specs.Size.{widest}
 use Rattle.point_darts.specs.Dart.{mark, dart}
 use Rattle.level_pieces.proofs.Neighbour.{toward-back}
 use Rattle.table_forest.proofs.Reach.{tied-by}
@@ -20,7 +19,6 @@ unfolding dart mark
 leaving-requires-2 c κs = omega arith
 
 add-toward : tie.Need-add-toward
-unfolding widest
 add-toward c = omega arith
 
 toward-requires-2 : tie.Need-toward-requires-2

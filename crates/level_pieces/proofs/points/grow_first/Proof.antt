@@ -1,6 +1,5 @@
 use native.Mathlib.Omega.{arith}
 use borrow.Author.Needs.{needs}
-use Rattle.sheet_size.specs.Size.{widest}
 use Rattle.point_darts.specs.Dart.{mark, dart}
 use Rattle.level_pieces.proofs.Neighbour.{toward-back}
 use Rattle.table_forest.proofs.Reach.{tied-by}
@@ -20,7 +19,6 @@ unfolding dart mark
 leaving-requires-2 c κs = omega arith
 
 add-toward-first : tie.Need-add-toward-first
-unfolding widest
 add-toward-first c = omega arith
 
 toward-first-requires-2 : tie.Need-toward-first-requires-2

@@ -49,7 +49,7 @@ loop-again c =
     let f = b .loop .inv in
     let s = b .before .before .before in (
       reached-more _ _ _ _ _ (f .0) _ (g .kept .1 .1 .0) (g .ensures (growing _ _ _ _ _ (f .0))),
-      column-back _ (within-limits _ _ (s .pre .0) .wide) _ _ (f .1) (c .if1 .taken),
+      column-back _ (within-limits _ _ (s .pre .0) .width-some) _ _ (f .1) (c .if1 .taken),
     )
 
 loop-less-2 : tie.Need-loop-less-2 Inv-loop μ-loop
@@ -62,7 +62,7 @@ loop-again-2 c =
     let f = b .loop .inv in
     let s = b .before .before .before in (
       reached-more _ _ _ _ _ (f .0) _ (g .kept .1 .1 .0) (g .ensures (growing _ _ _ _ _ (f .0))),
-      column-on _ (within-limits _ _ (s .pre .0) .wide) _ _ (f .1) (c .if1 .left),
+      column-on _ (within-limits _ _ (s .pre .0) .width-some) _ _ (f .1) (c .if1 .left),
     )
 
 flatten-requires : tie.Need-flatten-requires Inv-loop μ-loop

@@ -21,12 +21,12 @@ points-requires c κs = c .before .before .before .pre .0
 add-around : tie.Need-add-around
 add-around c =
     let e = c .before .before .before .before .pre .0 in
-    omega (arith, c .points .ensures, points-fit _ _ e, within-limits _ _ e .widest)
+    omega (arith, c .points .ensures, points-fit _ _ e, within-limits _ _ e .width-most)
 
 add-around-2 : tie.Need-add-around-2
 add-around-2 c =
     let e = c .before .before .before .before .pre .0 in
-    omega (arith, c .points .ensures, points-fit _ _ e, within-limits _ _ e .widest)
+    omega (arith, c .points .ensures, points-fit _ _ e, within-limits _ _ e .width-most)
 
 cast-around : tie.Need-cast-around
 cast-around c = search needs
