@@ -1,13 +1,14 @@
 use crate::bytes;
-use crate::card::BLANK;
-use crate::card::COLUMNS;
+use crate::card;
 ghost use mathlib.Core.Path.{_≡_};
 ghost use mathlib.Core.Bool.{true};
 ghost use Rattle.sheet_size.specs.Size.{within};
 ghost use Rattle.deck_card.specs.Layout.{wide, heading, rowCards, held};
 
 // The greatest width of a row that takes one card.
-const NARROW: u16 = COLUMNS as u16;
+const NARROW: u16 = card::COLUMNS as u16;
+
+const BLANK: u16 = card::BLANK as u16;
 
 // Whether rows of a width take two cards each.
 fn wide(width: u16) -> bool
@@ -50,5 +51,5 @@ pub fn heading(width: u16, height: u16) -> [u16; 11]
     if wide(width) {
         return [83, 72, 69, 69, 84, 50, w2, w1, w0, h1, h0];
     }
-    [83, 72, 69, 69, 84, BLANK as u16, w1, w0, h1, h0, BLANK as u16]
+    [83, 72, 69, 69, 84, BLANK, w1, w0, h1, h0, BLANK]
 }

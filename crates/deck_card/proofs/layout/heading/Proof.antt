@@ -55,12 +55,6 @@ returns c =
       at-h0 .digit5 .ensures,
     )
 
-cast-t10 : tie.Need-cast-t10
-cast-t10 c = search needs
-
-cast-t11 : tie.Need-cast-t11
-cast-t11 c = search needs
-
 returns-2 : tie.Need-returns-2
 unfolding blank digits laid heading
 returns-2 c =
@@ -93,6 +87,4 @@ heading-spec =
     cast-h0
     wide-requires
     returns
-    cast-t10
-    cast-t11
     returns-2)
