@@ -87,13 +87,13 @@ pub fn kinds() -> Vec<Kind> {
         // every level, count and join of every sheet up to 3 by 3 with up to 3 labels
         Kind { name: "small", seconds: 5, cases: sheets::all_small().len(), sheet: small, compare: everything },
         // the levels of a sheet of any size
-        Kind { name: "levels", seconds: 5, cases: 4000, sheet: any, compare: levels },
+        Kind { name: "levels", seconds: 6, cases: 4000, sheet: any, compare: levels },
         // drawing a sheet of any size, checking the drawing, and counting in it
-        Kind { name: "drawings", seconds: 9, cases: 4000, sheet: any, compare: drawings },
+        Kind { name: "drawings", seconds: 11, cases: 4000, sheet: any, compare: drawings },
         // joins in a sheet up to 20 by 20, until no two regions share a line
         Kind { name: "joins", seconds: 22, cases: 2400, sheet: middling, compare: joins },
         // such joins in a sheet of 72 by 72 or of 110 by 72
-        Kind { name: "large joins", seconds: 4, cases: 9, sheet: large, compare: joins },
+        Kind { name: "large joins", seconds: 5, cases: 9, sheet: large, compare: joins },
         // such joins in a sheet of many regions
         Kind { name: "long joins", seconds: 7, cases: 2, sheet: crowded, compare: joins },
         // joins and counts of names that are 0, equal, unused, too large or far apart
@@ -101,13 +101,13 @@ pub fn kinds() -> Vec<Kind> {
         // tables that are most often no drawing, of a sheet up to 20 by 20
         Kind { name: "damage", seconds: 7, cases: 16000, sheet: middling, compare: damage },
         // such tables of a sheet of any size
-        Kind { name: "large damage", seconds: 8, cases: 3000, sheet: any, compare: damage },
+        Kind { name: "large damage", seconds: 10, cases: 3000, sheet: any, compare: damage },
         // lengths and sizes that are not the stated ones, for a sheet up to 9 by 9
         Kind { name: "lengths", seconds: 4, cases: 900, sheet: little, compare: lengths },
         // such lengths and sizes for a sheet of any size
         Kind { name: "large lengths", seconds: 1, cases: 15, sheet: any, compare: lengths },
         // writing a deck, reading it, and reading decks changed in one or two ways
-        Kind { name: "decks", seconds: 4, cases: 6000, sheet: any, compare: decks },
+        Kind { name: "decks", seconds: 5, cases: 6000, sheet: any, compare: decks },
         // a deck of few cards with each byte changed, and cut at each place
         Kind { name: "deck bytes", seconds: 2, cases: 24, sheet: few_cards, compare: deck_bytes },
     ]

@@ -2,7 +2,7 @@
 --   wide w          == rows of width w take two cards each
 --   held w k        == how many cells the card numbered k holds
 --   rowCards w h    == how many cards hold the rows
-use mathlib.Core.Path.{_≡_, refl, sym, ap, _∙_}
+use mathlib.Core.Path.{_≡_, refl, sym, _∙_}
 use mathlib.Core.Bool.{Bool, true, false, cond}
 use Prim.Native.Nat.{ℕ, zero, suc, _+_, _*_, _-_, _%_, _≤_, _<_}
 use native.Mathlib.Nat.{zero-mul, suc-mul, mul-comm}

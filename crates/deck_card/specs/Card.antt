@@ -10,8 +10,8 @@
 --   padded c        == the content c, and blanks after it to the last column of content
 --   card k c        == the card numbered k with the content c
 --   whole c         == c is 80 bytes and a line feed
---   measured w      == w is a width that a card can hold: 1 to 72
---   part w c        == the first w bytes of c where w is such a width and c is whole, else nothing
+--   measured w      == w is how many cells a card can hold: 1 to 72
+--   part w c        == the first w bytes of c where w is so many cells and c is whole, else nothing
 --   partRefusal w c == 1 or 20 where the part is empty for that reason, in this order, else 0
 use mathlib.Core.Bool.{Bool, cond, _&&_}
 use mathlib.Core.List.{List, [], _∷_, _++_}

@@ -29,8 +29,8 @@ pub fn whole(bytes: &[u8]) -> bool
     bytes[COLUMNS + PLACES] == FEED
 }
 
-// The number of the refusal for which a part is empty: 1 where the width is not 1 to 72, 20 where the card is not 80 bytes
-// and a line feed, in this order; else 0.
+// The number of the refusal for which a part is empty: 1 where the width, how many cells this card holds, is not 1 to 72, 20
+// where the card is not 80 bytes and a line feed, in this order; else 0.
 pub fn part_refusal(width: u16, card: &[u8]) -> u16
     ensures { λ r. ⌜ r ≡ partRefusal width (now (card .entry)) ⌝ }
 {
@@ -47,8 +47,8 @@ pub fn part_refusal(width: u16, card: &[u8]) -> u16
     0
 }
 
-// The part of a lent card that holds its cells: its first bytes, as many as the width says. It is empty exactly where
-// part_refusal gives a number. Empty or not, it begins where the card begins: ptr is where a slice begins.
+// The part of a lent card that holds its cells: its first bytes, as many as the width says. A row wider than a card has two
+// cards, each with a width of its own. The part is empty exactly where part_refusal gives a number. Empty or not, it begins where the card begins: ptr is where a slice begins.
 pub fn part<'a>(width: u16, card: &'a [u8]) -> &'a [u8]
     ensures { λ r. ⌜ (now r ≡ part width (now (card .entry))) × (r .ptr ≡ card .entry .ptr) ⌝ }
 {
