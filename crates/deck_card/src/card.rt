@@ -48,7 +48,8 @@ pub fn part_refusal(width: u16, card: &[u8]) -> u16
 }
 
 // The part of a lent card that holds its cells: its first bytes, as many as the width says. A row wider than a card has two
-// cards, each with a width of its own. The part is empty exactly where part_refusal gives a number. Empty or not, it begins where the card begins: ptr is where a slice begins.
+// cards, each with a width of its own. The part is empty exactly where part_refusal gives a number. Empty or not, it begins
+// where the card begins: ptr is where a slice begins.
 pub fn part<'a>(width: u16, card: &'a [u8]) -> &'a [u8]
     ensures { λ r. ⌜ (now r ≡ part width (now (card .entry))) × (r .ptr ≡ card .entry .ptr) ⌝ }
 {

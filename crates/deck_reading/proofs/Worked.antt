@@ -117,15 +117,23 @@ unfolding equal every within columns places long blank feed fromTo lowest highes
 cards-open = tt
 
 decks-open : Unit {0}
-unfolding measured part wide laid heading rowCards held readOutcome writeOutcome orElse bears form value wideForm width height headed header row
+unfolding measured part wide laid heading rowCards held readOutcome writeOutcome
 decks-open = tt
+
+faults-open : Unit {0}
+unfolding orElse bears form value wideForm width height headed header row
+faults-open = tt
 
 outcomes-open : Unit {0}
 unfolding rowDeck deckOf deckLength written bytesAfter writing stopped rows judged room cells filled tableAfter reading
 outcomes-open = tt
 
+cases-open : Unit {0}
+unfolding same-outcome ends punched top deck wide-top row73 first wide-deck lent calls
+cases-open = tt
+
 calls-hold : failed same-outcome 0 calls ≡ []
-unfolding failed cards-open decks-open outcomes-open same-outcome ends punched top deck wide-top row73 first wide-deck lent calls
+unfolding failed cards-open decks-open faults-open outcomes-open cases-open
 calls-hold = refl
 
 deck-cases : map (λ (c : Case DeckOutcome). c .computed) calls ≡ map (λ (c : Case DeckOutcome). c .stated) calls
