@@ -1,3 +1,2 @@
 pub mod Card
-pub mod Layout
 pub mod Outcome

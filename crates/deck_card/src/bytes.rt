@@ -11,7 +11,7 @@ ghost use Rattle.laws.specs.Every.{every};
 ghost use Rattle.deck_card.specs.Card.{columns, long, fromTo, digit, card};
 
 // The byte of the decimal digit of a number that has so many digits after it.
-pub(crate) fn digit(number: u16, after: usize) -> u8
+pub fn digit(number: u16, after: usize) -> u8
     ensures { λ r. ⌜ r ≡ digit number after ⌝ }
 {
     let mut rest = number;

@@ -14,9 +14,9 @@ use Rattle.laws.proofs.Test.{and-left}
 use Rattle.sheet_size.specs.Size.{within}
 use Rattle.laws.specs.Every.{every}
 use Rattle.deck_card.specs.Card.{columns, places, blank, fromTo, visible, card, whole}
-use Rattle.deck_card.specs.Layout.{heading}
+use Rattle.deck_layout.specs.Layout.{heading}
 use Rattle.deck_card.proofs.Cards.{card-columns, card-number}
-use Rattle.deck_card.proofs.Headings.{heading-fits}
+use Rattle.deck_layout.proofs.Headings.{heading-fits}
 use Rattle.deck_faults.specs.Fault.{orElse, bears, form, width, height, headed, header, row}
 
 -- A refusal, or another where it is none.

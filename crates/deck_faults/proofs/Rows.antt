@@ -18,11 +18,11 @@ use Rattle.laws.specs.Every.{every}
 use Rattle.deck_card.specs.Card.{columns, places, long, blank, feed, visible, digit, digits, padded, card}
 use Rattle.deck_card.specs.Card.{whole}
 use Rattle.deck_card.proofs.Parts.{is-whole, whole-is}
-use Rattle.deck_card.specs.Layout.{wide, laid, heading}
+use Rattle.deck_layout.specs.Layout.{wide, laid, heading}
 use Rattle.deck_card.proofs.Cards.{length-card, card-content, card-feed, card-columns, card-number}
 use Rattle.deck_card.proofs.Every.{every-blank, every-blanks}
-use Rattle.deck_card.proofs.Headings.{length-laid, laid-fits, heading-fits}
-use Rattle.deck_card.proofs.Sizes.{narrow-most}
+use Rattle.deck_layout.proofs.Headings.{length-laid, laid-fits, heading-fits}
+use Rattle.deck_layout.proofs.Sizes.{narrow-most}
 use Rattle.deck_faults.specs.Fault.{bears, form, value, wideForm, width, height, headed, header, row}
 use Rattle.deck_faults.proofs.Forms.{header-is, header-form, header-headed, row-is, row-none, form-none}
 

@@ -21,7 +21,7 @@ use Rattle.laws.specs.Equal.{equal}
 use Rattle.sheet_size.specs.Size.{within}
 use Rattle.laws.specs.Every.{every}
 use Rattle.deck_card.specs.Card.{columns, places, blank, fromTo, visible, digits, padded, whole}
-use Rattle.deck_card.specs.Layout.{heading}
+use Rattle.deck_layout.specs.Layout.{heading}
 
 unfoldable pub orElse : ℕ → ℕ → ℕ
 orElse zero b = b

@@ -1,7 +1,6 @@
 use crate::form;
 use deck_card::bytes;
 use deck_card::card::COLUMNS;
-use deck_card::layout;
 ghost use mathlib.Core.Path.{_≡_};
 ghost use Prim.Native.Nat.{_-_};
 ghost use lib.ListN.{getD};
@@ -72,7 +71,7 @@ pub fn refusal(card: &[u8]) -> u16
     if !sheet_size::within(width, height) {
         return 21;
     }
-    let content = layout::heading(width, height);
+    let content = deck_layout::heading(width, height);
     if !bytes::agrees(card, &content, 1, 0, COLUMNS) {
         return 21;
     }

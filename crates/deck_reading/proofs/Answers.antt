@@ -14,7 +14,7 @@ use Rattle.deck_card.specs.declared.answer.Read.{Read}
 use Rattle.deck_card.specs.declared.answer.Read.the-variants.{Sheet, Refused}
 use Rattle.deck_card.specs.Card.{long, whole}
 use Rattle.deck_card.proofs.Parts.{whole-is}
-use Rattle.deck_card.specs.Layout.{rowCards, held}
+use Rattle.deck_layout.specs.Layout.{rowCards, held}
 use Rattle.deck_faults.specs.Fault.{width, height, header, row}
 use Rattle.deck_faults.proofs.Forms.{form-none, header-form, header-within, row-form}
 use Rattle.deck_reading.specs.Judging.{stopped, rows, judged}

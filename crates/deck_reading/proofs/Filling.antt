@@ -15,8 +15,8 @@ use Rattle.point_darts.proofs.Fit.{cells-fit}
 use Rattle.deck_card.specs.declared.answer.Read.the-variants.{Sheet}
 use Rattle.deck_card.specs.Card.{long, part}
 use Rattle.deck_card.proofs.Parts.{whole-is, part-held}
-use Rattle.deck_card.specs.Layout.{rowCards, held}
-use Rattle.deck_card.proofs.Sizes.{held-measured, held-most, sum, sum-all}
+use Rattle.deck_layout.specs.Layout.{rowCards, held}
+use Rattle.deck_layout.proofs.Sizes.{held-measured, held-most, sum, sum-all}
 use Rattle.deck_faults.specs.Fault.{row}
 use Rattle.deck_faults.proofs.Forms.{form-none, row-form}
 use Rattle.deck_reading.specs.Judging.{rows}

@@ -20,11 +20,11 @@ use Rattle.deck_card.specs.Card.{columns, long, visible, card, part}
 use Rattle.deck_card.specs.Outcome.{readOutcome, writeOutcome}
 use Rattle.deck_card.proofs.Outcomes.{read-one, write-one}
 use Rattle.deck_card.proofs.Parts.{part-held}
-use Rattle.deck_card.specs.Layout.{heading, rowCards, held}
+use Rattle.deck_layout.specs.Layout.{heading, rowCards, held}
 use Rattle.deck_card.proofs.Cards.{length-card}
 use Rattle.deck_card.proofs.Every.{every-take, every-drop, every-append}
-use Rattle.deck_card.proofs.Headings.{heading-fits}
-use Rattle.deck_card.proofs.Sizes.{held-measured, held-most, sum, sum-all}
+use Rattle.deck_layout.proofs.Headings.{heading-fits}
+use Rattle.deck_layout.proofs.Sizes.{held-measured, held-most, sum, sum-all}
 use Rattle.deck_faults.specs.Fault.{row}
 use Rattle.deck_faults.proofs.Forms.{row-none}
 use Rattle.deck_faults.proofs.Rows.{card-whole, card-cells, card-row, row-card}

@@ -7,7 +7,7 @@ use borrow.Author.Tests.{eq-eqb, ne-eqb}
 use Rattle.deck_card.specs.declared.answer.Read.the-variants.{Sheet, Refused}
 use Rattle.deck_card.specs.Card.{long}
 use Rattle.deck_card.specs.Outcome.{readOutcome}
-use Rattle.deck_card.specs.Layout.{rowCards}
+use Rattle.deck_layout.specs.Layout.{rowCards}
 use Rattle.deck_reading.specs.Judging.{judged}
 use Rattle.deck_reading.specs.Reading.{room, cells, filled, tableAfter, reading}
 

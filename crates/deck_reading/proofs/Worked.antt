@@ -24,7 +24,7 @@ use Rattle.laws.proofs.Test.{and-left, and-right}
 use Rattle.sheet_size.specs.Size.{within}
 use Rattle.deck_card.specs.Card.{columns, places, long, blank, feed, fromTo, lowest, highest, visible, digit, digits, padded, card}
 use Rattle.deck_card.specs.Card.{whole, measured, part}
-use Rattle.deck_card.specs.Layout.{wide, laid, heading, rowCards, held}
+use Rattle.deck_layout.specs.Layout.{wide, laid, heading, rowCards, held}
 use Rattle.deck_card.specs.Outcome.{DeckOutcome, readOutcome, writeOutcome}
 use Rattle.deck_faults.specs.Fault.{orElse, bears, form, value, wideForm, width, height, headed, header, row}
 use Rattle.deck_writing.specs.Writing.{rowDeck, deckOf, deckLength, written, bytesAfter, writing}

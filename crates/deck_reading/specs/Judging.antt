@@ -11,7 +11,7 @@ use lib.ListN.{length, take, drop}
 use Rattle.deck_card.specs.declared.answer.Read.{Read}
 use Rattle.deck_card.specs.declared.answer.Read.the-variants.{Sheet, Refused}
 use Rattle.deck_card.specs.Card.{long}
-use Rattle.deck_card.specs.Layout.{rowCards, held}
+use Rattle.deck_layout.specs.Layout.{rowCards, held}
 use Rattle.deck_faults.specs.Fault.{width, height, header, row}
 
 unfoldable pub stopped : ℕ → ℕ → Read → Read

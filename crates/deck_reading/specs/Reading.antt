@@ -13,7 +13,7 @@ use Rattle.deck_card.specs.declared.answer.Read.{Read}
 use Rattle.deck_card.specs.declared.answer.Read.the-variants.{Sheet, Refused}
 use Rattle.deck_card.specs.Card.{long, part}
 use Rattle.deck_card.specs.Outcome.{DeckOutcome, readOutcome}
-use Rattle.deck_card.specs.Layout.{rowCards, held}
+use Rattle.deck_layout.specs.Layout.{rowCards, held}
 use Rattle.deck_reading.specs.Judging.{judged}
 
 unfoldable pub room : ℕ

@@ -1,6 +1,5 @@
 use deck_card::answer::Read;
 use deck_card::card::LONG;
-use deck_card::layout;
 use deck_faults::header;
 use deck_faults::row;
 ghost use mathlib.Core.Path.{_≡_};
@@ -8,7 +7,7 @@ ghost use mathlib.Core.Bool.{true};
 ghost use lib.ListN.{take};
 ghost use Rattle.sheet_size.specs.Size.{within};
 ghost use Rattle.deck_card.specs.Card.{long};
-ghost use Rattle.deck_card.specs.Layout.{rowCards};
+ghost use Rattle.deck_layout.specs.Layout.{rowCards};
 ghost use Rattle.deck_reading.specs.Judging.{rows, judged};
 
 // The first card of the bytes that are left: the next 81 of them, or all.
@@ -27,10 +26,10 @@ fn rows(deck: &[u8], width: u16, height: u16) -> Read
     ensures { λ r. ⌜ r ≡ rows width height (rowCards width height) 2 (now (deck .entry)) ⌝ }
 {
     let mut rest = deck;
-    let mut left = layout::row_cards(width, height);
+    let mut left = deck_layout::row_cards(width, height);
     let mut number: u16 = 2;
     while 0 < left {
-        let refusal = row::refusal(next(rest), layout::held(width, number), number);
+        let refusal = row::refusal(next(rest), deck_layout::held(width, number), number);
         if refusal != 0 {
             return Read::Refused {
                 number: refusal,

@@ -3,12 +3,11 @@ use crate::judge;
 use deck_card::answer::Read;
 use deck_card::card;
 use deck_card::card::LONG;
-use deck_card::layout;
 ghost use mathlib.Core.Path.{_≡_};
 ghost use lib.ListN.{length, drop};
 ghost use Rattle.deck_card.specs.Card.{long};
 ghost use Rattle.deck_card.specs.Outcome.{readOutcome};
-ghost use Rattle.deck_card.specs.Layout.{rowCards};
+ghost use Rattle.deck_layout.specs.Layout.{rowCards};
 ghost use Rattle.deck_reading.specs.Judging.{judged};
 ghost use Rattle.deck_reading.specs.Reading.{room, cells, filled, reading};
 
@@ -22,12 +21,12 @@ fn fill(deck: &[u8], width: u16, height: u16, table: &mut [u16])
     ensures { λ _. ⌜ now (table .exit) ≡ filled (cells width (rowCards width height) 2 (drop long (now (deck .entry)))) ⌝ }
 {
     let mut rest = &deck[LONG..];
-    let mut left = layout::row_cards(width, height);
+    let mut left = deck_layout::row_cards(width, height);
     let mut number: u16 = 2;
     let mut from: usize = 0;
     while 0 < left {
         from = fill::copy(
-            card::part(layout::held(width, number), judge::next(rest)),
+            card::part(deck_layout::held(width, number), judge::next(rest)),
             table,
             from,
         );

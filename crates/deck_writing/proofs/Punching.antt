@@ -17,11 +17,11 @@ use Rattle.deck_card.specs.declared.answer.Written.the-variants.{Done, Size, Sh
 use Rattle.laws.specs.Every.{every}
 use Rattle.deck_card.specs.Card.{columns, long, visible, card}
 use Rattle.deck_card.specs.Outcome.{writeOutcome}
-use Rattle.deck_card.specs.Layout.{heading, rowCards, held}
+use Rattle.deck_layout.specs.Layout.{heading, rowCards, held}
 use Rattle.deck_card.proofs.Cards.{length-card}
 use Rattle.deck_card.proofs.Every.{every-take, every-drop, labels-bytes}
-use Rattle.deck_card.proofs.Headings.{heading-fits}
-use Rattle.deck_card.proofs.Sizes.{held-most, sum, sum-all}
+use Rattle.deck_layout.proofs.Headings.{heading-fits}
+use Rattle.deck_layout.proofs.Sizes.{held-most, sum, sum-all}
 use Rattle.deck_writing.specs.Writing.{rowDeck, deckOf, deckLength, written, bytesAfter, writing}
 
 -- n cards are left, k the next one's number; rest are the cells that are left; the bytes before at are written.

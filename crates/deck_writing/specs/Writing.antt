@@ -16,7 +16,7 @@ use Rattle.deck_card.specs.declared.answer.Written.the-variants.{Done, Size, Sh
 use Rattle.laws.specs.Every.{every}
 use Rattle.deck_card.specs.Card.{long, visible, card}
 use Rattle.deck_card.specs.Outcome.{DeckOutcome, writeOutcome}
-use Rattle.deck_card.specs.Layout.{heading, rowCards, held}
+use Rattle.deck_layout.specs.Layout.{heading, rowCards, held}
 
 unfoldable pub rowDeck : ℕ → ℕ → ℕ → List ℕ → List ℕ
 rowDeck w zero k s = []

@@ -2,7 +2,6 @@ use crate::label;
 use deck_card::answer::Written;
 use deck_card::bytes;
 use deck_card::card::LONG;
-use deck_card::layout;
 ghost use mathlib.Core.Path.{_≡_};
 ghost use mathlib.Core.Bool.{true};
 ghost use mathlib.Core.List.{_++_};
@@ -12,7 +11,7 @@ ghost use Rattle.sheet_size.specs.Size.{within};
 ghost use Rattle.laws.specs.Every.{every};
 ghost use Rattle.deck_card.specs.Card.{visible, long, card};
 ghost use Rattle.deck_card.specs.Outcome.{writeOutcome};
-ghost use Rattle.deck_card.specs.Layout.{heading, rowCards};
+ghost use Rattle.deck_layout.specs.Layout.{heading, rowCards};
 ghost use Rattle.deck_writing.specs.Writing.{rowDeck, deckLength, writing};
 
 // Writes the header's card.
@@ -20,7 +19,7 @@ fn put_header(width: u16, height: u16, deck: &mut [u8])
     requires { ⌜ long ≤ length (now deck) ⌝ }
     ensures { λ _. ⌜ now (deck .exit) ≡ card 1 (heading width height) ++ drop long (now (deck .entry)) ⌝ }
 {
-    let content = layout::heading(width, height);
+    let content = deck_layout::heading(width, height);
     bytes::put(&mut deck[..LONG], &content, 1);
 }
 
@@ -34,11 +33,11 @@ fn put_rows(width: u16, height: u16, sheet: &[u16], deck: &mut [u8])
         ≡ take long (now (deck .entry)) ++ rowDeck width (rowCards width height) 2 (now (sheet .entry)) ⌝ }
 {
     let mut rest = sheet;
-    let mut left = layout::row_cards(width, height);
+    let mut left = deck_layout::row_cards(width, height);
     let mut number: u16 = 2;
     let mut at = LONG;
     while 0 < left {
-        let held = layout::held(width, number) as usize;
+        let held = deck_layout::held(width, number) as usize;
         let next = at + LONG;
         bytes::put(&mut deck[at..next], &rest[..held], number);
         rest = &rest[held..];
@@ -60,7 +59,7 @@ pub fn write(width: u16, height: u16, sheet: &[u16], deck: &mut [u8]) -> Written
     if sheet.len() != (width * height) as usize {
         return Written::Sheet;
     }
-    if deck.len() != LONG * (layout::row_cards(width, height) as usize + 1) {
+    if deck.len() != LONG * (deck_layout::row_cards(width, height) as usize + 1) {
         return Written::Deck;
     }
     if !label::visible(sheet) {

@@ -5,7 +5,7 @@ use borrow.Author.Needs.{needs}
 use borrow.Author.Tests.{not-true, not-false}
 use Rattle.deck_card.specs.Card.{columns, places, long}
 use Rattle.deck_card.proofs.Parts.{whole-is}
-use Rattle.deck_card.proofs.Headings.{heading-fits, heading-bytes}
+use Rattle.deck_layout.proofs.Headings.{heading-fits, heading-bytes}
 use Rattle.deck_faults.specs.Fault.{header}
 use Rattle.deck_faults.proofs.Forms.{headed-is, header-formed, header-is, form-none}
 use Rattle.deck_faults.proofs.header.refusal.Statement.{statement}

@@ -4,8 +4,8 @@ use native.Mathlib.Nat.{le-refl}
 use native.Mathlib.Omega.{arith}
 use lib.ListN.{length, take}
 use Rattle.deck_card.specs.Card.{columns, places, long}
-use Rattle.deck_card.specs.Layout.{rowCards, held}
-use Rattle.deck_card.proofs.Sizes.{held-measured, cards-few}
+use Rattle.deck_layout.specs.Layout.{rowCards, held}
+use Rattle.deck_layout.proofs.Sizes.{held-measured, cards-few}
 use Rattle.deck_card.proofs.Table.{rest-all}
 use Rattle.deck_faults.specs.Fault.{row}
 use Rattle.deck_reading.specs.Judging.{rows}

@@ -4,8 +4,8 @@ use native.Mathlib.Nat.{le-refl}
 use native.Mathlib.Omega.{arith}
 use lib.ListN.{length, take, drop}
 use Rattle.deck_card.specs.Card.{columns, places, long, part}
-use Rattle.deck_card.specs.Layout.{rowCards, held}
-use Rattle.deck_card.proofs.Sizes.{cards-few}
+use Rattle.deck_layout.specs.Layout.{rowCards, held}
+use Rattle.deck_layout.proofs.Sizes.{cards-few}
 use Rattle.deck_card.proofs.Table.{rest-all}
 use Rattle.deck_reading.specs.Reading.{cells}
 use Rattle.deck_reading.proofs.Answers.{Deck, judged-sheet, header-whole}

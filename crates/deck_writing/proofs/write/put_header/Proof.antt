@@ -2,7 +2,7 @@ use mathlib.Core.Path.{sym}
 use lib.Seq.{length-take-le}
 use borrow.Author.Needs.{needs}
 use Rattle.deck_card.specs.Card.{columns, places, long}
-use Rattle.deck_card.proofs.Headings.{heading-fits, heading-bytes}
+use Rattle.deck_layout.proofs.Headings.{heading-fits, heading-bytes}
 use Rattle.deck_writing.proofs.write.put_header.Statement.{statement}
 use Rattle.deck_writing.proofs.write.put_header.Tie as tie
 

@@ -7,8 +7,8 @@ use lib.ListN.{length, take, drop}
 use lib.Seq.{length-take-le}
 use borrow.Author.Needs.{needs}
 use Rattle.deck_card.specs.Card.{columns, places, long, card}
-use Rattle.deck_card.specs.Layout.{rowCards, held}
-use Rattle.deck_card.proofs.Sizes.{cards-few}
+use Rattle.deck_layout.specs.Layout.{rowCards, held}
+use Rattle.deck_layout.proofs.Sizes.{cards-few}
 use Rattle.deck_card.proofs.Table.{rest-all}
 use Rattle.deck_writing.specs.Writing.{rowDeck}
 use Rattle.deck_writing.proofs.Punching.{Punching, punching-none, punching-cells, punching-room, punching-content}

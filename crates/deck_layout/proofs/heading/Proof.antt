@@ -1,8 +1,8 @@
 use borrow.Author.Needs.{needs}
 use Rattle.deck_card.specs.Card.{blank, digits}
-use Rattle.deck_card.specs.Layout.{laid, heading}
-use Rattle.deck_card.proofs.layout.heading.Statement.{statement}
-use Rattle.deck_card.proofs.layout.heading.Tie as tie
+use Rattle.deck_layout.specs.Layout.{laid, heading}
+use Rattle.deck_layout.proofs.heading.Statement.{statement}
+use Rattle.deck_layout.proofs.heading.Tie as tie
 
 digit-requires : tie.Need-digit-requires
 digit-requires c κs = search needs

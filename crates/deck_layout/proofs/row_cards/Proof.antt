@@ -1,9 +1,9 @@
 use native.Mathlib.Omega.{arith}
 use borrow.Author.Needs.{needs}
 use Rattle.sheet_size.proofs.Limit.{within-limits}
-use Rattle.deck_card.specs.Layout.{rowCards}
-use Rattle.deck_card.proofs.layout.row_cards.Statement.{statement}
-use Rattle.deck_card.proofs.layout.row_cards.Tie as tie
+use Rattle.deck_layout.specs.Layout.{rowCards}
+use Rattle.deck_layout.proofs.row_cards.Statement.{statement}
+use Rattle.deck_layout.proofs.row_cards.Tie as tie
 
 wide-requires : tie.Need-wide-requires
 wide-requires c κs = search needs

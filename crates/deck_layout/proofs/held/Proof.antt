@@ -3,11 +3,11 @@ use mathlib.Core.Bool.{true}
 use native.Mathlib.Omega.{arith}
 use borrow.Author.Needs.{needs}
 use borrow.Author.Tests.{not-true, not-false}
 use Rattle.deck_card.specs.Card.{columns}
-use Rattle.deck_card.specs.Layout.{wide, held}
-use Rattle.deck_card.proofs.Sizes.{wide-more, held-first, held-second}
-use Rattle.deck_card.proofs.layout.held.Statement.{statement}
-use Rattle.deck_card.proofs.layout.held.Tie as tie
+use Rattle.deck_layout.specs.Layout.{wide, held}
+use Rattle.deck_layout.proofs.Sizes.{wide-more, held-first, held-second}
+use Rattle.deck_layout.proofs.held.Statement.{statement}
+use Rattle.deck_layout.proofs.held.Tie as tie
 
 wide-requires : tie.Need-wide-requires
 wide-requires c κs = search needs

@@ -8,8 +8,8 @@ use Prim.Native.Nat.{ℕ, zero, suc, _≤_, _<_}
 use native.Mathlib.Omega.{arith}
 use lib.Dec.{T, ltb, lit<}
 use lib.ListN.{length, getD}
 use Rattle.deck_card.specs.Card.{columns, blank, digit, digits}
-use Rattle.deck_card.specs.Layout.{wide, laid, heading}
+use Rattle.deck_layout.specs.Layout.{wide, laid, heading}
 
 pub length-laid : (b : Bool) (w h : ℕ) → length (laid b w h) ≡ 11
 unfolding laid digits

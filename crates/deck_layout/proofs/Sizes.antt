@@ -11,9 +11,9 @@ use lib.Dec.{eqb}
 use borrow.Author.Tests.{ltb-true, ltb-false, eq-eqb, ne-eqb}
 use Rattle.sheet_size.specs.Size.{within}
 use Rattle.sheet_size.proofs.Limit.{within-limits}
 use Rattle.deck_card.specs.Card.{columns, measured}
 use Rattle.deck_card.proofs.Parts.{is-measured}
-use Rattle.deck_card.specs.Layout.{wide, rowCards, held}
+use Rattle.deck_layout.specs.Layout.{wide, rowCards, held}
 
 -- A row that takes two cards is wider than a card, and one that takes one card is not.
 pub wide-more : (w : ℕ) → wide w ≡ true → columns < w

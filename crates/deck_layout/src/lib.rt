@@ -1,9 +1,10 @@
-use crate::bytes;
-use crate::card;
+// How a sheet is laid out on cards: which columns its header has, how many cards hold its rows, and how many cells each.
+use deck_card::bytes;
+use deck_card::card;
 ghost use mathlib.Core.Path.{_≡_};
 ghost use mathlib.Core.Bool.{true};
 ghost use Rattle.sheet_size.specs.Size.{within};
-ghost use Rattle.deck_card.specs.Layout.{wide, heading, rowCards, held};
+ghost use Rattle.deck_layout.specs.Layout.{wide, heading, rowCards, held};
 
 // The greatest width of a row that takes one card.
 const NARROW: u16 = card::COLUMNS as u16;
