@@ -86,12 +86,12 @@ row-card w k c h e =
     formed-is k c (r .form-is) ∙ ap (λ x. x ++ (digits places k ++ (feed ∷ []))) content
 
 -- Digits are read as they are written.
-two-digits : (n : ℕ) → n < 100 → value (digit n 1) (digit n 0) ≡ n
-unfolding value digit
+two-digits : (n : ℕ) → n < 100 → 10 * (digit n 1 - 48) + (digit n 0 - 48) ≡ n
+unfolding digit
 two-digits n h = omega arith
 
-three-digits : (n : ℕ) → n < 1000 → 10 * value (digit n 2) (digit n 1) + (digit n 0 - 48) ≡ n
-unfolding value digit
+three-digits : (n : ℕ) → n < 1000 → 10 * (10 * (digit n 2 - 48) + (digit n 1 - 48)) + (digit n 0 - 48) ≡ n
+unfolding digit
 three-digits n h = omega arith
 
 -- A header whose columns are laid out in a form names the width and the height.
@@ -109,14 +109,14 @@ module _ (b : Bool) (w h : ℕ) where
       go false = refl
 
 laid-width : (b : Bool) (w h : ℕ) → w < cond b 1000 100 → width (card 1 (laid b w h)) ≡ w
-unfolding width laid digits
+unfolding width value laid digits
 laid-width true w h n =
     rw (laid-form true w h, laid-at true w h 6 tt, laid-at true w h 7 tt, laid-at true w h 8 tt) (three-digits w n)
 laid-width false w h n =
     rw (laid-form false w h, laid-at false w h 6 tt, laid-at false w h 7 tt) (two-digits w n)
 
 laid-height : (b : Bool) (w h : ℕ) → h < 100 → height (card 1 (laid b w h)) ≡ h
-unfolding height laid digits
+unfolding height value laid digits
 laid-height true w h n =
     rw (laid-form true w h, laid-at true w h 9 tt, laid-at true w h 10 tt) (two-digits h n)
 laid-height false w h n =

@@ -4,7 +4,7 @@
 --   bears k c       == columns 73 to 80 of c are the digits of k
 --   form k c        == the refusal of the form of the card numbered k, whatever its content: 25 not there, 20 not whole, so
 --                      not 80 bytes and a line feed, 22 not bearing its number
---   value a b       == the number whose two digits are the bytes a and b
+--   value c p       == the number whose two digits are the bytes of c at the place p and the next
 --   wideForm c      == column 6 of a header is a 2
 --   width c, height c == the values of columns 7-8 and 9-10 of a header, in the wide form of 7-9 and 10-11
 --   headed c        == these are a size, and columns 1 to 72 are laid out as the header of this size: so these columns are
@@ -33,17 +33,17 @@ bears k c = equal (drop columns (take (columns + places) c)) (digits places k)
 unfoldable pub form : ℕ → List ℕ → ℕ
 form k c = cond (eqb (length c) 0) 25 (cond (whole c) (cond (bears k c) 0 22) 20)
 
-unfoldable pub value : ℕ → ℕ → ℕ
-value a b = 10 * (a - 48) + (b - 48)
+unfoldable pub value : List ℕ → ℕ → ℕ
+value c p = 10 * (getD c p 0 - 48) + (getD c (p + 1) 0 - 48)
 
 unfoldable pub wideForm : List ℕ → Bool
 wideForm c = eqb (getD c 5 0) 50
 
 unfoldable pub width : List ℕ → ℕ
-width c = let two = value (getD c 6 0) (getD c 7 0) in cond (wideForm c) (10 * two + (getD c 8 0 - 48)) two
+width c = cond (wideForm c) (10 * value c 6 + (getD c 8 0 - 48)) (value c 6)
 
 unfoldable pub height : List ℕ → ℕ
-height c = cond (wideForm c) (value (getD c 9 0) (getD c 10 0)) (value (getD c 8 0) (getD c 9 0))
+height c = cond (wideForm c) (value c 9) (value c 8)
 
 unfoldable pub headed : List ℕ → Bool
 headed c = within (width c) (height c) && equal (take columns c) (padded (heading (width c) (height c)))

@@ -2,8 +2,9 @@ use crate::form;
 use deck_card::bytes;
 use deck_card::card::COLUMNS;
 ghost use mathlib.Core.Path.{_≡_};
-ghost use Prim.Native.Nat.{_-_};
+ghost use Prim.Native.Nat.{_-_, _≤_, _<_};
 ghost use lib.ListN.{getD};
+ghost use Rattle.deck_card.specs.Card.{columns};
 ghost use Rattle.deck_faults.specs.Fault.{value, wideForm, width, height, header};
 
 // The byte at a place, 0 past the end.
@@ -20,11 +21,12 @@ fn worth(byte: u8) -> u16
     if byte < 48 { 0 } else { (byte - 48) as u16 }
 }
 
-// The number with two digits.
-fn value(tens: u8, ones: u8) -> u16
-    ensures { λ r. ⌜ r ≡ value tens ones ⌝ }
+// The number whose two digits stand at a place of a card and the next; at most 2,277, whatever the bytes.
+fn value(card: &[u8], place: usize) -> u16
+    requires { ⌜ place < columns ⌝ }
+    ensures { λ r. ⌜ (r ≡ value (now (card .entry)) place) × (r ≤ 2277) ⌝ }
 {
-    10 * worth(tens) + worth(ones)
+    10 * worth(at(card, place)) + worth(at(card, place + 1))
 }
 
 // Whether a header has the wide form: SHEET2.
@@ -38,11 +40,10 @@ fn wide_form(card: &[u8]) -> bool
 pub fn width(card: &[u8]) -> u16
     ensures { λ r. ⌜ r ≡ width (now (card .entry)) ⌝ }
 {
-    let two = value(at(card, 6), at(card, 7));
     if wide_form(card) {
-        10 * two + worth(at(card, 8))
+        10 * value(card, 6) + worth(at(card, 8))
     } else {
-        two
+        value(card, 6)
     }
 }
 
@@ -51,9 +52,9 @@ pub fn height(card: &[u8]) -> u16
     ensures { λ r. ⌜ r ≡ height (now (card .entry)) ⌝ }
 {
     if wide_form(card) {
-        value(at(card, 9), at(card, 10))
+        value(card, 9)
     } else {
-        value(at(card, 8), at(card, 9))
+        value(card, 8)
     }
 }
 
