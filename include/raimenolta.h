@@ -190,10 +190,10 @@ uint16_t raimenolta_counts(
     uint16_t *work_d, size_t work_d_length);
 
 /*
- * Reads a land deck of either form: reads deck (of any length), writes cells (RAIMENOLTA_CELLS), the labels in row order and 0 after
- * them, and the two numbers W and H at size. Refusals 26, then card by card 25, 20, 22, then 21 for the header or 23
- * and 24 from the left for a row, and last 25 for bytes after the last card. A refusal writes the one number at card:
- * that of the card, counted from 1, or 0 for 26. When it is done it leaves card as it was.
+ * Reads a land deck of either form: reads deck (of any length), writes cells (RAIMENOLTA_CELLS), the labels in row order
+ * and 0 after them, and the two numbers W and H at size. Refusals 26, then card by card 25, 20, 22, then 21 for the
+ * header or 23 and 24 from the left for a row's card, and last 25 for bytes after the last card. A refusal writes the one
+ * number at card: that of the card, counted from 1, or 0 for 26. When it is done it leaves card as it was.
  */
 uint16_t raimenolta_read(
     const uint8_t *deck, size_t deck_length,
