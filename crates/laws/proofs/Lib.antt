@@ -22,6 +22,7 @@ pub mod Over
 pub mod Parity
 pub mod Rise
 pub mod Splice
+pub mod Steps
 pub mod Table
 pub mod Test
 pub mod Walk

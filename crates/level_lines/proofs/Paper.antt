@@ -9,7 +9,7 @@ use Rattle.laws.specs.Table.{table}
 use Rattle.laws.proofs.Table.{getD-table, table-agree}
 use Rattle.point_darts.specs.Dart.{mark, points, slots, point, direction, far, reversal}
 use Rattle.point_darts.specs.Point.{right, present}
-use Rattle.point_rules.specs.Turn.{turnOf}
+use Rattle.point_rules.specs.Turn.{turn, turningOf, turnOf}
 use Rattle.point_darts.proofs.Darts.{dart-own, direction-below}
 use Rattle.point_darts.proofs.Reach.{slot-point, line-far}
 use Rattle.paper.specs.Name.{cells}
@@ -41,7 +41,7 @@ module _ (w h : ℕ) (o : ℕ → Bool) where
 
   module _ (l : Lines w h o) where
     onward-next : (d : ℕ) → o d ≡ true → onward w (drafted w h o) d ≡ next w o d
-    unfolding onward next turnOf
+    unfolding onward next turn turnOf turningOf
     onward-next d e =
         rw (
           drafted-at (far w d) (line-far w h d (l .lined d e)),

@@ -12,7 +12,8 @@ use lib.ListN.{getD, length}
 use Rattle.sheet_size.specs.Size.{within}
 use Rattle.point_darts.specs.Dart.{mark, points, dart, beside, turned}
 use Rattle.point_darts.specs.Point.{half, has}
-use Rattle.point_rules.specs.Turn.{turn, turnOf}
+use Rattle.point_rules.specs.declared.turn.Turn.{Turn}
+use Rattle.point_rules.specs.Turn.{turningOf, led, turnOf}
 use Rattle.sheet_size.proofs.Limit.{within-limits}
 use Rattle.point_darts.proofs.Back.{beside-le}
 use Rattle.point_darts.proofs.Darts.{point-dart, direction-dart, turned-below, far-dart}
@@ -23,23 +24,20 @@ use Rattle.table_entries.proofs.Passed.{pointed-is}
 use Rattle.level_lines.specs.Line.{lined, onward, entryOf}
 
 -- Turning.
-cond-le : (b : Bool) (x y : ℕ) → x ≤ 4 → y ≤ 4 → cond b x y ≤ 4
-cond-le true x y p q = p
-cond-le false x y p q = q
-
 turned-le : (k i : ℕ) → turned k i ≤ 4
 turned-le k i = omega (arith, turned-below k i)
 
-turn-le : (m k : ℕ) → turn m k ≤ 4
-unfolding turn
-turn-le m k =
-    cond-le (has m (turned k 1)) _ _ (turned-le k 1)
-    (cond-le (has m (turned k 0)) _ _ (turned-le k 0)
-    (cond-le (has m (turned k 3)) _ _ (turned-le k 3) (cond-le (has m (turned k 2)) _ _ (turned-le k 2) (omega arith))))
+led-le : (k : ℕ) (v : Turn) → led k v ≤ 4
+unfolding led
+led-le k Turn.Right = turned-le k 1
+led-le k Turn.Straight = turned-le k 0
+led-le k Turn.Left = turned-le k 3
+led-le k Turn.Back = turned-le k 2
+led-le k Turn.None = omega arith
 
 pub turnOf-le : (m k : ℕ) → turnOf m k ≤ 4
 unfolding turnOf
-turnOf-le m k = cond-le (ltb m 16 && ltb k 4) (turn m k) 4 (turn-le m k) (omega arith)
+turnOf-le m k = led-le k (turningOf m k)
 
 -- The entries at the darts of a point.
 module _ (m : List ℕ) (p : ℕ) where

@@ -5,6 +5,7 @@
 --   read t ds       == the entries of a table at some places
 --   refusal ..      == the number of joining a with b in the drawing of a sheet
 --   holes-of w h s rs == how many holes some regions of a sheet have
+--   turns-of w h s ds == the right turns of some darts of a sheet at level 3, then their left turns
 --   accepted w h t  == 1 where the tables t are a drawing, else 0
 --   spoilt w h t    == the same of the tables t with one entry changed, in each of the five in turn
 --   hanging w h l   == the points that have exactly one line of the links l
@@ -22,8 +23,10 @@ use Rattle.laws.proofs.Equal.{equal-true}
 use Rattle.sheet_size.specs.Size.{within}
 use Rattle.point_darts.specs.Dart.{mark, points, slots}
 use Rattle.point_darts.specs.Point.{degree}
+use Rattle.point_rules.specs.Turn.{isRight, isLeft}
 use Rattle.paper.specs.Name.{names}
-use Rattle.paper.specs.Level.{mask, level, marked}
+use Rattle.paper.specs.Level.{border, mask, level, marked}
+use Rattle.paper.specs.Turns.{curveTurns}
 use Rattle.paper.specs.Enclosure.{depth, holes}
 use Rattle.paper.specs.Contour.{innerContours}
 use Rattle.paper.specs.Drawing.{Tables, drawing, fresh, isDrawing}
@@ -103,6 +106,11 @@ two-ponds = 65 ∷ 65 ∷ 65 ∷ 65 ∷ 65 ∷ 65 ∷ 66 ∷ 65 ∷ 66 ∷ 65 �
 
 holes-of : ℕ → ℕ → List ℕ → List ℕ → List ℕ
 holes-of w h s rs = let t = drawing w h s in map (holes w h (on (t .side1)) (t .parent)) rs
+
+turns-of : ℕ → ℕ → List ℕ → List ℕ → List ℕ
+turns-of w h s ds =
+    let on = border w h (names w h s) in
+    read (curveTurns w h on isRight) ds ++ read (curveTurns w h on isLeft) ds
 
 accepted : ℕ → ℕ → Tables → List ℕ
 accepted w h t = number (isDrawing w h t) ∷ []
@@ -193,6 +201,17 @@ beside-claims =
     -- as many inner contours
     ∷ record { computed = map (innerContours 3 3 (names 3 3 p5)) (0 ∷ 1 ∷ 5 ∷ []); stated = 1 ∷ 1 ∷ 0 ∷ [] }
     ∷ record { computed = map (innerContours 4 3 (names 4 3 two-parcels)) (0 ∷ 1 ∷ 6 ∷ []); stated = 1 ∷ 1 ∷ 0 ∷ [] }
+    -- turns inside the runs: P5, where the anchor's own is left out; P2, where the ends are; one turn among straight steps; a closed
+    -- curve with turns to both hands
+    ∷ record { computed = turns-of 3 3 p5 (0 ∷ 1 ∷ 20 ∷ 21 ∷ []); stated = 3 ∷ 0 ∷ 3 ∷ 0 ∷ 0 ∷ 3 ∷ 0 ∷ 3 ∷ [] }
+    ∷ record { computed = turns-of 2 1 p2 (4 ∷ 16 ∷ 5 ∷ 6 ∷ []); stated = 2 ∷ 0 ∷ 0 ∷ 0 ∷ 0 ∷ 2 ∷ 0 ∷ 2 ∷ [] }
+    ∷ record { computed = turns-of 3 3 p6 (40 ∷ 42 ∷ 45 ∷ 47 ∷ []); stated = 0 ∷ 3 ∷ 1 ∷ 0 ∷ 0 ∷ 0 ∷ 0 ∷ 3 ∷ [] }
+    ∷ record { computed = turns-of 4 4 bent-inside (28 ∷ 29 ∷ []); stated = 4 ∷ 1 ∷ 1 ∷ 4 ∷ [] }
+    -- the mark at every slot that is no dart of level 3
+    ∷ record {
+      computed = ones 2 1 (curveTurns 2 1 (border 2 1 (names 2 1 p2)) isRight);
+      stated = 4 ∷ 5 ∷ 6 ∷ 16 ∷ 18 ∷ 19 ∷ [];
+    }
     -- the limits of width and height
     ∷ record { computed = map (λ n. number (within n 1)) (0 ∷ 1 ∷ 110 ∷ 111 ∷ []); stated = 0 ∷ 1 ∷ 1 ∷ 0 ∷ [] }
     ∷ record { computed = map (λ n. number (within 1 n)) (0 ∷ 1 ∷ 72 ∷ 73 ∷ []); stated = 0 ∷ 1 ∷ 1 ∷ 0 ∷ [] }
@@ -241,7 +260,7 @@ unfolding joins hanging hanging-ends hanging-claims
 joins-open = tt
 
 cases-open : Unit {0}
-unfolding opened sheets-open joins-open refusal accepted spoilt holes-of darts picked ones read claims beside-claims
+unfolding opened sheets-open joins-open refusal accepted spoilt holes-of turns-of darts picked ones read claims beside-claims
 cases-open = tt
 
 claims-hold : failed equal 0 claims ≡ []

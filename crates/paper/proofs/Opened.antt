@@ -3,14 +3,15 @@ use Rattle.laws.specs.Equal.{equal}
 use Rattle.laws.specs.Table.{table, count, some}
 use Rattle.laws.specs.First.{firstFailed}
 use Rattle.laws.specs.Least.{lower, tie, ties, least}
-use Rattle.laws.specs.Run.{run}
+use Rattle.laws.specs.Run.{run, countTo}
 use Rattle.sheet_size.specs.Size.{within}
 use Rattle.point_darts.specs.Dart.{mark, points, slots, dart, point, direction, beside, far, turned, reversal, stays, line}
 use Rattle.point_darts.specs.Point.{bits, half, has, corner, right, left, parts, present, degree, inline}
-use Rattle.point_rules.specs.Turn.{turn}
+use Rattle.point_rules.specs.Turn.{turning, led, turn, isRight, isLeft}
 use Rattle.paper.specs.Name.{label, west, north, names, named, cells}
 use Rattle.paper.specs.Level.{side, border, mask, next, plain, last, along, big, bent, tops, anchor, kept2, kept3, among}
 use Rattle.paper.specs.Level.{level, marked}
+use Rattle.paper.specs.Turns.{taken, turns, curveTurns}
 use Rattle.paper.specs.Enclosure.{topSide, parent, parents, above, depth, hole, holes}
 use Rattle.paper.specs.Contour.{reached, contour, outermost, innerContours}
 use Rattle.paper.specs.Drawing.{drawn, drawing, fresh, recover, recovered, same, isDrawing}
@@ -22,12 +23,16 @@ use Rattle.paper.specs.Refusal.{joinRefusal, merged, countRefusal, deepe
 use Rattle.laws.proofs.Cases.{failed}
 
 laws-open : Unit {0}
-unfolding table count some lower tie ties least run firstFailed
+unfolding table count some lower tie ties least run countTo firstFailed
 laws-open = tt
 
 points-open : Unit {0}
-unfolding within mark points slots dart point direction beside far turned reversal stays line turn
+unfolding within mark points slots dart point direction beside far turned reversal stays line
 points-open = tt
+
+turns-open : Unit {0}
+unfolding turning led turn isRight isLeft taken turns curveTurns
+turns-open = tt
 
 masks-open : Unit {0}
 unfolding bits half has corner right left parts present degree inline
@@ -58,5 +63,5 @@ unfolding givenTests used adjoin nameTests joinRefusal merged countRefusal deepe
 names-open = tt
 
 unfoldable pub opened : Unit {0}
-unfolding laws-open points-open masks-open levels-open contours-open drawings-open joins-open refusals-open names-open failed
+unfolding laws-open points-open turns-open masks-open levels-open contours-open drawings-open joins-open refusals-open names-open failed
 opened = tt

@@ -6,3 +6,4 @@ pub mod Level
 pub mod Name
 pub mod Refusal
 pub mod Sitting
+pub mod Turns

@@ -34,4 +34,5 @@ pub mod Smoothed
 pub mod Still
 pub mod Straight
 pub mod Theorem
+pub mod Turns
 pub mod Untouched

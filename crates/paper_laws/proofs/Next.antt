@@ -89,13 +89,15 @@ module _ (w h : ℕ) (on : ℕ → Bool) (l : Lines w h on) where
     once = next-once;
   }
 
+  -- the reversal leads to the point that the dart leaves
+  pub far-reversal : (d : ℕ) → on d ≡ true → far w (reversal w d) ≡ point d
+  far-reversal d e = sym (point-reversal w (reversal w d)) ∙ ap point (twice d e)
+
   -- next of the reversal is the line met first when turning back
   pub next-around : (d : ℕ) → on d ≡ true
       → next w on (reversal w d) ≡ dart (point d) (around (mask on (point d)) (direction d))
   unfolding next around
-  next-around d e =
-      let f : far w (reversal w d) ≡ point d = sym (point-reversal w (reversal w d)) ∙ ap point (twice d e) in
-      rw (f, direction-reversal w d)
+  next-around d e = rw (far-reversal d e, direction-reversal w d)
 
   has-own : (d p : ℕ) → on d ≡ true → p ≡ point d → has (mask on p) (direction d) ≡ true
   has-own d p e q = has-mask on p (direction d) (direction-below d) ∙ rw (q, dart-own d) e

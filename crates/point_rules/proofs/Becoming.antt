@@ -1,6 +1,5 @@
 -- What a point becomes, by the point table, that had the lines m and has the lines l left: proved at all masks by tests
 -- that antt computes.
---   same a b        == the tests a and b agree
 --   both f          == every two masks pass the test f
 --   becoming m l    == what the point becomes: the lines of m that are not among l are taken
 use mathlib.Core.Path.{_≡_, refl, sym}
@@ -17,15 +16,7 @@ use Rattle.point_darts.specs.Dart.{turned}
 use Rattle.point_darts.specs.Point.{bits, half, has, degree, inline}
 use Rattle.point_rules.specs.Turn.{without, impossible, kind, becomes, becomesOf, pointTable, becoming}
 use Rattle.point_rules.proofs.Entry.{becomes-entry}
-use Rattle.point_rules.proofs.Turns.{all, all-at}
-
-abbrev same : Bool → Bool → Bool
-same a b = cond a b (not b)
-
-same-at : (a b : Bool) → same a b ≡ true → a ≡ b
-same-at true b e = sym e
-same-at false true e = absurd (false≢true e)
-same-at false false e = refl
+use Rattle.point_rules.proofs.Turns.{all, all-at, same, same-at}
 
 abbrev both : (ℕ → ℕ → Bool) → Bool
 both f = all 16 (λ m. all 16 (f m))

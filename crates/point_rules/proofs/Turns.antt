@@ -4,11 +4,14 @@
 --   each a b f      == every mask m, j below a and k below b pass the test f m j k
 --   odd a b         == exactly one of a and b
 --   even f          == an even number of the four directions pass the test f
+--   same a b        == the tests a and b agree
+--   turning-none    == the turn is none exactly where no line is present
+--   turn-back       == a point with at most two lines: who comes back takes a left turn where there was a right turn
 --   turn-skip       == passing over the lines that are taken, from line to line, is turning among those that are left
 use mathlib.Core.Path.{_≡_, refl, sym, ap, ap₂, _∙_}
 use mathlib.Core.Bool.{Bool, true, false, not, cond, _&&_, _||_, false≢true, and-eq-true-iff}
 use mathlib.Core.List.{List}
-use mathlib.Core.Logic.{_⊎_, inl, inr}
+use mathlib.Core.Logic.{_⊎_, inl, inr, _↔_}
 use Prim.Native.Nat.{ℕ, zero, suc, _<_, _≤_}
 use native.Mathlib.Omega.{arith}
 use native.Mathlib.Decide.{ℕ-discrete}
@@ -19,7 +22,8 @@ use Rattle.laws.proofs.Test.{and-under}
 use Rattle.laws.proofs.Even.{odd}
 use Rattle.point_darts.specs.Dart.{turned}
 use Rattle.point_darts.specs.Point.{bits, half, has, right, parts, present, degree, inline}
-use Rattle.point_rules.specs.Turn.{turn, without}
+use Rattle.point_rules.specs.declared.turn.Turn.{Turn}
+use Rattle.point_rules.specs.Turn.{turning, led, turn, isRight, isLeft, without}
 use Rattle.point_darts.proofs.Darts.{four, turned-below, turned-round}
 use Rattle.point_darts.proofs.Points.{bits-same, bits-below, has-bits, has-present, right-back}
 
@@ -63,6 +67,21 @@ differs m j k = not (has m (turned j 2) && has m (turned k 2) && eqb (turn m j) 
 abbrev pairs : ℕ → ℕ → ℕ → Bool
 pairs m j k = not (leb (degree m) 2 && has m j && has m k) || (eqb k j || eqb k (around m j))
 
+abbrev pub same : Bool → Bool → Bool
+same a b = cond a b (not b)
+
+pub same-at : (a b : Bool) → same a b ≡ true → a ≡ b
+same-at true b e = sym e
+same-at false true e = absurd (false≢true e)
+same-at false false e = refl
+
+-- of at most two lines, a right turn is a left turn on the way back, and a left turn a right turn
+abbrev turnsBack : ℕ → ℕ → ℕ → Bool
+turnsBack m i k =
+    let v = turning m k in
+    let u = turning m (turned (turn m k) 2) in
+    not (leb (degree m) 2 && has m (turned k 2)) || same (isLeft u) (isRight v) && same (isRight u) (isLeft v)
+
 -- where the lines t are left of the lines m: from line to line until one is left
 abbrev skips : ℕ → ℕ → ℕ → Bool
 skips m t k = not (eqb (without t m) 0 && not (eqb t 0)) || eqb (run (around m) (has t) 4 (turn m k)) (turn t k)
@@ -83,31 +102,35 @@ abbrev evens : ℕ → ℕ → ℕ → Bool
 evens m t i = even (λ k. has m k && odd (has t k) (has t (around m k)))
 
 all-find : each 1 4 finds ≡ true
-unfolding turn has half turned
+unfolding turn turning led has half turned
 all-find = refl
 
 all-differ : each 4 4 differs ≡ true
-unfolding turn has half turned
+unfolding turn turning led has half turned
 all-differ = refl
 
 all-pair : each 4 4 pairs ≡ true
-unfolding around turn degree has half turned
+unfolding around turn turning led degree has half turned
 all-pair = refl
 
+all-turn-back : each 1 4 turnsBack ≡ true
+unfolding turn turning led isRight isLeft degree has half turned
+all-turn-back = refl
+
 all-skip : each 16 4 skips ≡ true
-unfolding around turn without run bits has half turned
+unfolding around turn turning led without run bits has half turned
 all-skip = refl
 
 all-straighten : each 1 4 straightens ≡ true
-unfolding turn degree inline bits has half turned
+unfolding turn turning led degree inline bits has half turned
 all-straighten = refl
 
 all-lead : each 4 4 leads ≡ true
-unfolding around turn run has half turned
+unfolding around turn turning led run has half turned
 all-lead = refl
 
 all-even : each 16 1 evens ≡ true
-unfolding around turn has half turned
+unfolding around turn turning led has half turned
 all-even = refl
 
 module _ (m : ℕ) (b : m < 16) where
@@ -137,6 +160,17 @@ module _ (m : ℕ) (b : m < 16) where
       go true e t = inl (eqb-true k j e)
       go false e t = inr (eqb-true k (around m j) t)
 
+  pub turn-back : (k : ℕ) → k < 4 → degree m ≤ 2 → has m (turned k 2) ≡ true
+      → let v = turning m k in
+      let u = turning m (turned (turn m k) 2) in
+      (isLeft u ≡ isRight v) × (isRight u ≡ isLeft v)
+  turn-back k l d h =
+      let v = turning m k in
+      let u = turning m (turned (turn m k) 2) in
+      let t = rw (le-leb (degree m) 2 d, h) at (each-at 1 4 turnsBack all-turn-back m b 0 k (lit< tt) l) in
+      let both = and-eq-true-iff (same (isLeft u) (isRight v)) (same (isRight u) (isLeft v)) .0 t in
+      (same-at (isLeft u) (isRight v) (both .0), same-at (isRight u) (isLeft v) (both .1))
+
   pub turn-straight : (k : ℕ) → k < 4 → has m (turned k 2) ≡ true → degree m ≡ 2 → (inline m ≡ 0 → ⊥) → turn m k ≡ k
   turn-straight k l u v z =
       eqb-true (turn m k) k
@@ -155,6 +189,32 @@ module _ (m : ℕ) (b : m < 16) where
 has-none : (j : ℕ) → j < 4 → has 0 j ≡ false
 unfolding has half
 has-none = four (λ j. has 0 j ≡ false) refl refl refl refl
+
+-- no turn is taken where no line is present, and none leads to direction 4
+turning-no-line : (k : ℕ) → turning 0 k ≡ Turn.None
+unfolding turning
+turning-no-line k =
+    rw (
+      has-none (turned k 1) (turned-below k 1),
+      has-none (turned k 0) (turned-below k 0),
+      has-none (turned k 3) (turned-below k 3),
+      has-none (turned k 2) (turned-below k 2),
+    )
+
+pub turn-none : (k : ℕ) → turn 0 k ≡ 4
+unfolding turn led
+turn-none k = rw (turning-no-line k)
+
+pub turning-none : (m k : ℕ) → m < 16 → k < 4 → (turning m k ≡ Turn.None) ↔ (m ≡ 0)
+unfolding turn led
+turning-none m k b l = (
+  λ e. go e (ℕ-discrete m 0),
+  λ e. rw e (turning-no-line k),
+)
+  where
+    go : turning m k ≡ Turn.None → Dec (m ≡ 0) → m ≡ 0
+    go e (yes z) = z
+    go e (no z) = let t : led k Turn.None < 4 = rw e at (turn-below m b k l z) in absurd (omega arith)
 
 -- a mask with lines is not 0
 pub degree-some : (m : ℕ) → 0 < degree m → m ≡ 0 → ⊥
@@ -206,24 +266,26 @@ module _ (m : ℕ) (b : m < 16) where
       rw (at 0 (lit< tt), at 1 (lit< tt), at 2 (lit< tt), at 3 (lit< tt))
       at (each-at 16 1 evens all-even m b t 0 (bits-below f) (lit< tt))
 
--- the first that is chosen of four, where each that is passed over has the value of the one after it
-chosen : (R : ℕ → ℕ) (a b c d : ℕ) (p q r s : Bool)
-    → (p ≡ false → R a ≡ R b) → (q ≡ false → R b ≡ R c) → (r ≡ false → R c ≡ R d) → s ≡ true
-    → R (cond p a (cond q b (cond r c (cond s d 4)))) ≡ R a
-chosen R a b c d true q r s f g h e = refl
-chosen R a b c d false true r s f g h e = sym (f refl)
-chosen R a b c d false false true s f g h e = sym (f refl ∙ g refl)
-chosen R a b c d false false false true f g h e = sym (f refl ∙ g refl ∙ h refl)
-chosen R a b c d false false false false f g h e = absurd (false≢true e)
+-- the first turn that is chosen of four, where each direction that is passed over has the value of the one after it
+chosen : (R : ℕ → ℕ) (k : ℕ) (p q r s : Bool)
+    → (p ≡ false → R (turned k 1) ≡ R (turned k 0)) → (q ≡ false → R (turned k 0) ≡ R (turned k 3))
+    → (r ≡ false → R (turned k 3) ≡ R (turned k 2)) → s ≡ true
+    → R (led k (cond p Turn.Right (cond q Turn.Straight (cond r Turn.Left (cond s Turn.Back Turn.None))))) ≡ R (turned k 1)
+unfolding led
+chosen R k true q r s f g h e = refl
+chosen R k false true r s f g h e = sym (f refl)
+chosen R k false false true s f g h e = sym (f refl ∙ g refl)
+chosen R k false false false true f g h e = sym (f refl ∙ g refl ∙ h refl)
+chosen R k false false false false f g h e = absurd (false≢true e)
 
 -- turning keeps the hand: the line found has on its right what the way in has
 pub turn-keeps : (c : List (List ℕ)) (k : ℕ)
     → parts c (turned k 2) ≡ true → right c (turn (present c) k) ≡ right c (turned k 1)
-unfolding turn
+unfolding turn turning
 turn-keeps c k e =
     let m = present c in
     let at : (i : ℕ) → has m (turned k i) ≡ parts c (turned k i) = λ i. has-present c (turned k i) (turned-below k i) in
-    chosen (right c) (turned k 1) (turned k 0) (turned k 3) (turned k 2)
+    chosen (right c) k
     (has m (turned k 1)) (has m (turned k 0)) (has m (turned k 3)) (has m (turned k 2))
     (λ z. right-back c k 0 (sym (at 1) ∙ z))
     (λ z. rw (← turned-round k) (right-back c k 3 (rw turned-round (sym (at 0) ∙ z))))

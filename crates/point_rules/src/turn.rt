@@ -1,7 +1,7 @@
 ghost use mathlib.Core.Path.{_≡_};
 ghost use Prim.Native.Nat.{_<_};
 ghost use Rattle.point_darts.specs.Point.{has};
-ghost use Rattle.point_rules.specs.Turn.{turnOf, pointTable, kinding};
+ghost use Rattle.point_rules.specs.Turn.{turningOf, turnOf, pointTable, kinding};
 
 // No direction: what next_line answers where no line is present.
 const NONE: u16 = 4;
@@ -274,9 +274,20 @@ const POINT_TABLE: [u16; 256] = [
     0,
 ];
 
-// The line that follows at a point.
+// The turn that is taken at a point into the line that follows.
+pub enum Turn {
+    Right,
+    Straight,
+    Left,
+    Back,
+    // No line is present.
+    None,
+}
+
+// The line that follows at a point, and the turn that leads to it.
 pub struct NextLine {
     pub direction: u16,
+    pub turn: Turn,
 }
 
 // Whether a mask has the line in a direction.
@@ -287,33 +298,54 @@ fn has(lines: u16, direction: u16) -> bool
     (lines >> direction) % 2 == 1
 }
 
-// Of the lines present at a point, the first of right turn, straight on, left turn and back, for a heading; none where
-// no line is present, or a number is no mask or no heading.
+// Of the lines present at a point, the first of right turn, straight on, left turn and back, for a heading, and which of them it
+// is; none where no line is present, or a number is no mask or no heading.
 pub fn next_line(present: u16, heading: u16) -> NextLine
-    ensures { λ r. ⌜ r .direction ≡ turnOf present heading ⌝ }
+    ensures { λ r. ⌜ (r .direction ≡ turnOf present heading) × (r .turn ≡ turningOf present heading) ⌝ }
 {
     if 15 < present {
-        return NextLine { direction: NONE };
+        return NextLine {
+            direction: NONE,
+            turn: Turn::None,
+        };
     }
     if 3 < heading {
-        return NextLine { direction: NONE };
+        return NextLine {
+            direction: NONE,
+            turn: Turn::None,
+        };
     }
     let right = (heading + 1) % 4;
     if has(present, right) {
-        return NextLine { direction: right };
+        return NextLine {
+            direction: right,
+            turn: Turn::Right,
+        };
     }
     if has(present, heading) {
-        return NextLine { direction: heading };
+        return NextLine {
+            direction: heading,
+            turn: Turn::Straight,
+        };
     }
     let left = (heading + 3) % 4;
     if has(present, left) {
-        return NextLine { direction: left };
+        return NextLine {
+            direction: left,
+            turn: Turn::Left,
+        };
     }
     let back = (heading + 2) % 4;
     if has(present, back) {
-        return NextLine { direction: back };
+        return NextLine {
+            direction: back,
+            turn: Turn::Back,
+        };
     }
-    NextLine { direction: NONE }
+    NextLine {
+        direction: NONE,
+        turn: Turn::None,
+    }
 }
 
 // The point table. A constant table is built anew where it is named, so who reads it at many points names it once.

@@ -13,10 +13,10 @@ leaving-requires : tie.Need-leaving-requires
 unfolding mark dart
 leaving-requires c κs =
     let a = c .before .args in
-    omega (arith, c .before .pre, c .next-line .ensures, turnOf-le (a .lines) (a .direction))
+    omega (arith, c .before .pre, c .next-line .ensures .0, turnOf-le (a .lines) (a .direction))
 
 returns : tie.Need-returns
-returns c = c .leaving .ensures ∙ ap (dart _) (c .before .next-line .ensures)
+returns c = c .leaving .ensures ∙ ap (dart _) (c .before .next-line .ensures .0)
 
 pub follow-spec : {M : Type 1} → statement M
 follow-spec = tie.close (tie.spec next-line-requires leaving-requires returns)
