@@ -2,6 +2,7 @@ use join_darts::ends;
 use point_darts::dart;
 use point_darts::dart::Dart;
 use table_entries::entry;
+use table_entries::present;
 ghost use mathlib.Core.Path.{_≡_};
 ghost use mathlib.Core.Bool.{true};
 ghost use Prim.Native.Nat.{_<_};
@@ -47,7 +48,7 @@ fn close_point(
         close (on (now (lines .entry))) (now (tops .entry)) (links (now (next .entry)) (now (other .entry))) point
         ⌝ }
 {
-    let curves = ends::mask(next, point);
+    let curves = present::mask(next, point);
     if !ends::two(point_table, curves, curves) {
         return;
     }
@@ -58,12 +59,12 @@ fn close_point(
     if x != v {
         return;
     }
-    let left = ends::mask(lines, point);
-    if !ends::two(point_table, ends::mask(before, point), left) {
+    let left = present::mask(lines, point);
+    if !ends::two(point_table, present::mask(before, point), left) {
         return;
     }
     let top = tops[point as usize];
-    let anchor = ends::seen(ends::mask(lines, top), top);
+    let anchor = ends::seen(present::mask(lines, top), top);
     move_loop(next, other, u, v, anchor.first, anchor.last);
 }
 

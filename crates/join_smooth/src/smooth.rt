@@ -2,6 +2,7 @@ use join_darts::ends;
 use point_darts::dart;
 use point_darts::dart::Dart;
 use table_entries::entry;
+use table_entries::present;
 ghost use mathlib.Core.Path.{_≡_};
 ghost use mathlib.Core.Bool.{true};
 ghost use mathlib.Core.List.{List};
@@ -67,8 +68,8 @@ fn smooth_point(
         links (now (next .exit)) (now (other .exit)) ≡ smooth (links (now (next .entry)) (now (other .entry))) point
         ⌝ }
 {
-    let left = ends::mask(next, point);
-    if !ends::two(point_table, ends::mask(before, point), left) {
+    let left = present::mask(next, point);
+    if !ends::two(point_table, present::mask(before, point), left) {
         return;
     }
     let seen = ends::seen(left, point);

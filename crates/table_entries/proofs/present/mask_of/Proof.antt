@@ -1,7 +1,7 @@
 use native.Mathlib.Omega.{arith}
-use Rattle.join_darts.proofs.Seeing.{mask-sum}
-use Rattle.join_darts.proofs.ends.mask_of.Statement.{statement}
-use Rattle.join_darts.proofs.ends.mask_of.Tie as tie
+use Rattle.table_entries.proofs.Masked.{mask-sum}
+use Rattle.table_entries.proofs.present.mask_of.Statement.{statement}
+use Rattle.table_entries.proofs.present.mask_of.Tie as tie
 
 where-on-requires : tie.Need-where-on-requires
 where-on-requires c κs = tt

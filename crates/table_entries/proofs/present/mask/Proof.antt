@@ -1,9 +1,9 @@
 use native.Mathlib.Omega.{arith}
 use Rattle.point_darts.specs.Dart.{dart}
-use Rattle.join_darts.proofs.Seeing.{read-dart}
+use Rattle.table_entries.proofs.Masked.{read-dart}
 use borrow.Author.Needs.{needs}
-use Rattle.join_darts.proofs.ends.mask.Statement.{statement}
-use Rattle.join_darts.proofs.ends.mask.Tie as tie
+use Rattle.table_entries.proofs.present.mask.Statement.{statement}
+use Rattle.table_entries.proofs.present.mask.Tie as tie
 
 first-slot-requires : tie.Need-first-slot-requires
 first-slot-requires c κs = search needs

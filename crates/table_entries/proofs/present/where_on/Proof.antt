@@ -1,7 +1,7 @@
 use Rattle.point_darts.specs.Dart.{mark}
-use Rattle.join_darts.proofs.Seeing.{where-off, where-on}
-use Rattle.join_darts.proofs.ends.where_on.Statement.{statement}
-use Rattle.join_darts.proofs.ends.where_on.Tie as tie
+use Rattle.table_entries.proofs.Masked.{where-off, where-on}
+use Rattle.table_entries.proofs.present.where_on.Statement.{statement}
+use Rattle.table_entries.proofs.present.where_on.Tie as tie
 
 returns : tie.Need-returns
 unfolding mark

@@ -1,0 +1,2 @@
+// The turns of the curves of a drawing.
+pub mod turns;

@@ -1,0 +1,144 @@
+// The right turns and the left turns of each dart of level 3, on its run to the next kept point. The points where a run starts
+// and ends are left out.
+use point_darts::dart;
+use point_darts::dart::Dart;
+use point_rules::turn;
+use point_rules::turn::Turn;
+use table_entries::entry;
+use table_entries::present;
+ghost use mathlib.Core.Path.{_≡_};
+ghost use mathlib.Core.Bool.{true};
+ghost use lib.ListN.{length};
+ghost use Rattle.laws.specs.Table.{number};
+ghost use Rattle.sheet_size.specs.Size.{within};
+ghost use Rattle.point_darts.specs.Dart.{slots, point, direction};
+ghost use Rattle.point_rules.specs.Turn.{turning, isRight, isLeft};
+ghost use Rattle.paper.specs.Level.{mask};
+ghost use Rattle.paper.specs.Joining.{on};
+ghost use Rattle.count_turns.specs.Turns.{whole, turnsTo, turnsAt, turnTable};
+
+// How many right turns and left turns a run takes.
+struct Turns {
+    right: u16,
+    left: u16,
+}
+
+// The mask of the lines at a point for which a table of whole points has entries; 0 past its end.
+fn lines_at(table: &[u16], point: u16) -> u16
+    requires { ⌜ whole (now table) ⌝ }
+    ensures { λ r. ⌜ r ≡ mask (on (now (table .entry))) point ⌝ }
+{
+    if dart::first_slot(point) < table.len() {
+        return present::mask(table, point);
+    }
+    0
+}
+
+// The turn that is taken from a dart into the one after it, among the lines at the point between them.
+fn turn_into(next: &[u16], dart: u16, after: u16) -> Turn
+    requires { ⌜ whole (now next) ⌝ }
+    ensures { λ r. ⌜ r ≡ turning (mask (on (now (next .entry))) (point after)) (direction dart) ⌝ }
+{
+    let lines = lines_at(next, Dart { number: after }.point());
+    turn::next_line(lines, Dart { number: dart }.direction()).turn
+}
+
+// 1 for a right turn, else 0.
+fn rights(turn: Turn) -> u16
+    ensures { λ r. ⌜ r ≡ number (isRight turn) ⌝ }
+{
+    match turn {
+        Turn::Right => 1,
+        Turn::Straight => 0,
+        Turn::Left => 0,
+        Turn::Back => 0,
+        Turn::None => 0,
+    }
+}
+
+// 1 for a left turn, else 0.
+fn lefts(turn: Turn) -> u16
+    ensures { λ r. ⌜ r ≡ number (isLeft turn) ⌝ }
+{
+    match turn {
+        Turn::Right => 0,
+        Turn::Straight => 0,
+        Turn::Left => 1,
+        Turn::Back => 0,
+        Turn::None => 0,
+    }
+}
+
+// The turns that are taken from a dart on along next, before the step to the dart at the end, at most so many steps.
+fn run(steps: u16, next: &[u16], start: u16, end: u16) -> Turns
+    requires { ⌜ whole (now next) ⌝ }
+    ensures { λ r. ⌜
+        (r .right ≡ turnsTo steps (now (next .entry)) end isRight start) ×
+        (r .left ≡ turnsTo steps (now (next .entry)) end isLeft start)
+        ⌝ }
+{
+    let mut right: u16 = 0;
+    let mut left: u16 = 0;
+    let mut dart = start;
+    let mut after = entry::get(next, start);
+    let mut rest = steps;
+    while 0 < rest {
+        if after == end {
+            return Turns { right, left };
+        }
+        let turn = turn_into(next, dart, after);
+        right += rights(turn);
+        left += lefts(turn);
+        dart = after;
+        after = entry::get(next, after);
+        rest -= 1;
+    }
+    Turns { right, left }
+}
+
+// The turns of a dart up to its next of level 3, at most so many steps; the mark twice where it has none.
+fn turns_at(steps: u16, next1: &[u16], next3: &[u16], d: u16) -> Turns
+    requires { ⌜ whole (now next1) ⌝ }
+    ensures { λ r. ⌜
+        (r .right ≡ turnsAt steps (now (next1 .entry)) (now (next3 .entry)) isRight d) ×
+        (r .left ≡ turnsAt steps (now (next1 .entry)) (now (next3 .entry)) isLeft d)
+        ⌝ }
+{
+    let end = entry::get(next3, d);
+    if end == dart::MARK {
+        return Turns {
+            right: dart::MARK,
+            left: dart::MARK,
+        };
+    }
+    run(steps, next1, d, end)
+}
+
+// The right turns and the left turns of every dart of level 3; the mark at every other slot. Each line is passed once by one run
+// and once by the run back, so the work grows with the lines.
+pub fn all_turns(
+    width: u16,
+    height: u16,
+    next1: &[u16],
+    next3: &[u16],
+    right: &mut [u16],
+    left: &mut [u16],
+)
+    requires { ⌜
+        (within width height ≡ true) × (length (now next1) ≡ slots width height) ×
+        (length (now right) ≡ slots width height) × (length (now left) ≡ slots width height)
+        ⌝ }
+    ensures { λ _. ⌜
+        (now (right .exit) ≡ turnTable width height (now (next1 .entry)) (now (next3 .entry)) isRight) ×
+        (now (left .exit) ≡ turnTable width height (now (next1 .entry)) (now (next3 .entry)) isLeft)
+        ⌝ }
+{
+    let n = dart::slots(width, height);
+    let mut d: u16 = 0;
+    while d < n {
+        let turns = turns_at(n, next1, next3, d);
+        right[d as usize] = turns.right;
+        left[d as usize] = turns.left;
+        d += 1;
+    }
+}
