@@ -3,7 +3,7 @@
 --   pieceIn w h n r p == p is the least point of a piece that the region r lies round, by the names n
 --   pieces s t r    == how many pieces the region r lies round, by the sides s and the tops t
 --   holes w h on p r == how many different pieces are the outer pieces of the regions whose parent is r
-use mathlib.Core.Path.{_≡_, refl, sym, _∙_, fun-ext}
+use mathlib.Core.Path.{_≡_, refl, sym, _∙_}
 use mathlib.Core.Bool.{Bool, true, false, cond, _&&_}
 use mathlib.Core.List.{List}
 use Prim.Native.Nat.{ℕ, _+_, _≤_, _<_}
@@ -23,7 +23,8 @@ use Rattle.paper.specs.Joining.{at, on}
 use Rattle.paper_laws.proofs.Sheet.{border-back, border-below}
 use Rattle.paper_laws.proofs.Piece.{length-tops}
 use Rattle.paper_laws.proofs.Kept.{top}
-use Rattle.paper_laws.proofs.Marks.{within-fits, names-side-small, at-marked, on-marked}
+use Rattle.paper_laws.proofs.Marks.{within-fits, at-marked}
+use Rattle.paper_laws.proofs.Drawn.{sides-on}
 use Rattle.paper_laws.proofs.Enclosure.{parentage}
 use Rattle.paper_laws.proofs.IsDrawing.{is-drawing-drawn}
 use Rattle.paper_laws.proofs.Hole.{pieceIn, holes-pieces}
@@ -35,10 +36,6 @@ module _ (w h : ℕ) (s : List ℕ) (small : slots w h ≤ mark) where
 
   abbrev sides : List ℕ
   sides = marked w h (border w h n) (side w h n)
-
-  on-sides : on sides ≡ border w h n
-  on-sides =
-      fun-ext (on-marked w h (border w h n) (side w h n) (border-below w h n) (λ d _. names-side-small w h s small d))
 
   -- a line has both its darts
   both-on : (p : ℕ) → border w h n (dart p 0) ≡ border w h n (dart (p + 1) 2)
@@ -73,7 +70,7 @@ module _ (w h : ℕ) (s : List ℕ) (small : slots w h ≤ mark) where
       → pieces sides (tops w h (on sides)) r ≡ holes w h (on sides) (parentage w h n) r
   unfolding pieces
   drawn-holes r b =
-      rw (on-sides, length-tops w h (border w h n))
+      rw (sides-on w h s small, length-tops w h (border w h n))
       (count-agree (λ p. eqb (roundAt sides (tops w h (border w h n)) p) r) (pieceIn w h n r) (points w h)
       (λ p _. round-piece r b p)
       ∙ sym (holes-pieces w h s small r (λ e. omega arith)))

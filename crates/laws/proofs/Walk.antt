@@ -118,6 +118,15 @@ module _ {f : ℕ → ℕ} {stop : ℕ → Bool} where
   run-same (more s r) (here t) = clash t s
   run-same (more s r) (more t q) = run-same r q
 
+  -- a run that does not end at its start goes on after one step; one that does has led nowhere
+  pub run-tail : {k d e : ℕ} → Run f stop k d e → stop d ≡ false → (j : ℕ) × Run f stop j (f d) e
+  run-tail (here s) t = clash s t
+  run-tail (more {k = k} s r) t = (k, r)
+
+  pub run-ended : {k d e : ℕ} → Run f stop k d e → stop d ≡ true → d ≡ e
+  run-ended (here s) t = refl
+  run-ended (more s r) t = clash t s
+
 -- one step before a run
 pub step : {f : ℕ → ℕ} {stop : ℕ → Bool} {k d c e : ℕ} → stop d ≡ false → f d ≡ c → Run f stop k c e
     → Run f stop (suc k) d e

@@ -11,8 +11,9 @@ use mathlib.Core.Logic.{_≢_}
 use Prim.Native.Nat.{ℕ, zero, suc, _<_}
 use Rattle.laws.specs.Run.{run}
 use Rattle.laws.proofs.Chart.{Map, Chart, Covers, Passes, last as last′, level as level′}
-use Rattle.laws.proofs.Level.{last-on, last-kept, last-side, level-chart}
+use Rattle.laws.proofs.Level.{leads, last-run, last-on, last-kept, last-side, level-chart}
 use Rattle.laws.proofs.Loop.{loops-passes}
+use Rattle.laws.proofs.Walk.{Run}
 use Rattle.point_darts.specs.Dart.{slots, point, far, reversal}
 use Rattle.point_darts.proofs.Darts.{point-reversal}
 use Rattle.paper.specs.Level.{Level, side, border, next, plain, last, along, kept2, kept3, among, level}
@@ -69,10 +70,13 @@ module _ (w h : ℕ) (n : List ℕ) (l : Level) (c : Chart (level-map w h n l)) 
 
 -- The level along the points that pass keep is the chart's.
 module _ (w h : ℕ) (n : List ℕ) (keep : ℕ → Bool) where
+  pub stop-leads : (λ e. keep (far w e)) ≡ leads (sheet w h n) keep
+  unfolding sheet
+  stop-leads = fun-ext (λ e. ap keep (sym (point-reversal w e)))
+
   pub last-last : (d : ℕ) → last w h (border w h n) keep d ≡ last′ (sheet w h n) keep d
   unfolding last last′ sheet
-  last-last d =
-      ap (λ s. run (next w (border w h n)) s (slots w h) d) (fun-ext (λ e. ap keep (sym (point-reversal w e))))
+  last-last d = ap (λ s. run (next w (border w h n)) s (slots w h) d) stop-leads
 
   pub along-map : level-map w h n (along w h (border w h n) keep) ≡ level′ (sheet w h n) keep
   unfolding level-map along level′ sheet
@@ -99,6 +103,11 @@ module _ (w h : ℕ) (n : List ℕ) (keep : ℕ → Bool) where
       pub run-ends : keep (far w (last w h (border w h n) keep d)) ≡ true
       unfolding sheet
       run-ends = rw (last-last d, ← point-reversal w _) (last-kept (sheet-chart w h n) (g .covers) d e)
+
+      pub run-led : (j : ℕ) × (j < slots w h)
+          × Run (next w (border w h n)) (λ e. keep (far w e)) j d (last w h (border w h n) keep d)
+      unfolding sheet
+      run-led = rw (last-last d, stop-leads) (last-run (sheet-chart w h n) (g .covers) d e)
 
       pub run-side : side w h n (last w h (border w h n) keep d) ≡ side w h n d
       unfolding sheet

@@ -1,10 +1,10 @@
 -- What the tables of a drawing hold, for any table n of names.
 --   links mark on f == f at the darts that are on, the mark elsewhere
 --   anchors w h n   == the points that level 3 keeps
-use mathlib.Core.Path.{_≡_, refl, _∙_, ap}
+use mathlib.Core.Path.{_≡_, refl, _∙_, ap, fun-ext}
 use mathlib.Core.Bool.{Bool, true, cond, _&&_}
 use mathlib.Core.List.{List}
-use Prim.Native.Nat.{ℕ, _<_}
+use Prim.Native.Nat.{ℕ, _≤_, _<_}
 use lib.ListN.{length}
 use Rattle.laws.specs.Table.{table}
 use Rattle.laws.proofs.Test.{and-left}
@@ -13,14 +13,22 @@ use Rattle.laws.proofs.Chart.{Chart}
 use Rattle.laws.proofs.Chart as Chart
 use Rattle.laws.proofs.Over.{links}
 use Rattle.point_darts.specs.Dart.{mark, slots, point, reversal}
-use Rattle.paper.specs.Level.{side, border, next, last, along, plain, level, kept3, among}
+use Rattle.paper.specs.Name.{names}
+use Rattle.paper.specs.Level.{side, border, next, last, along, plain, level, kept3, among, marked}
 use Rattle.paper.specs.Drawing.{drawn}
-use Rattle.paper.specs.Joining.{Links, at}
+use Rattle.paper.specs.Joining.{Links, at, on}
 use Rattle.paper_laws.proofs.Sheet.{lines-map, sheet, sheet-chart, sheet-few, border-alone, border-below}
 use Rattle.paper_laws.proofs.Along.{last-last}
-use Rattle.paper_laws.proofs.Marks.{length-marked, at-marked, at-held}
+use Rattle.paper_laws.proofs.Marks.{length-marked, at-marked, at-held, on-marked, names-side-small}
 use Rattle.paper_laws.proofs.Removed.{Reads}
 use Rattle.paper_laws.proofs.Held.{Plane, Held}
+
+-- the sides of level 1 tell the darts that are on
+pub sides-on : (w h : ℕ) (s : List ℕ) → slots w h ≤ mark
+    → let n = names w h s in on (marked w h (border w h n) (side w h n)) ≡ border w h n
+sides-on w h s small =
+    let n = names w h s in
+    fun-ext (on-marked w h (border w h n) (side w h n) (border-below w h n) (λ d _. names-side-small w h s small d))
 
 module _ (w h : ℕ) (n : List ℕ) where
   abbrev pub anchors : ℕ → Bool

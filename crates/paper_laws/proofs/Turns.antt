@@ -2,14 +2,13 @@
 --   taken w on d    == the turn that is taken at the far point of dart d
 --   turns w h on keep is d == how many turns that pass the test is the run from d to the next kept point takes inside
 --   level w h n 3   == level 3 of the sheet with the names n
-use mathlib.Core.Path.{_≡_, sym, ap, _∙_, fun-ext}
+use mathlib.Core.Path.{_≡_, sym, ap, _∙_}
 use mathlib.Core.Bool.{Bool, true, false}
 use mathlib.Core.List.{List}
 use Prim.Native.Nat.{ℕ}
 use borrow.Author.Tests.{ltb-false}
 use Rattle.laws.specs.Run.{countTo}
 use Rattle.laws.proofs.Chart.{last as last′}
-use Rattle.laws.proofs.Level.{leads}
 use Rattle.laws.proofs.Loop.{Above, not-above}
 use Rattle.laws.proofs.Steps.{count-back}
 use Rattle.laws.proofs.Test.{and-left, and-right}
@@ -24,7 +23,7 @@ use Rattle.paper.specs.Turns.{taken, turns}
 use Rattle.paper_laws.proofs.Next.{Lines, mask-below, way-in, point-next, direction-next, next-on, far-reversal}
 use Rattle.paper_laws.proofs.Sheet.{sheet, sheet-chart, border-lines}
 use Rattle.paper_laws.proofs.Kept.{sheet-loops}
-use Rattle.paper_laws.proofs.Along.{Kept, last-last, kept3-kept}
+use Rattle.paper_laws.proofs.Along.{Kept, stop-leads, last-last, kept3-kept}
 
 -- The way back through a point with at most two lines.
 module _ (w h : ℕ) (on : ℕ → Bool) (l : Lines w h on) (d : ℕ) (e : on d ≡ true) (few : big on (far w d) ≡ false) where
@@ -56,18 +55,13 @@ module _ (w h : ℕ) (n : List ℕ) (keep : ℕ → Bool) (g : Kept w h n keep) 
   abbrev on : ℕ → Bool
   on = border w h n
 
-  -- the run, in the words of charts
-  same-stop : (λ e. keep (far w e)) ≡ leads (sheet w h n) keep
-  unfolding sheet
-  same-stop = fun-ext (λ e. ap keep (sym (point-reversal w e)))
-
   back-turns : (is was : Turn → Bool)
       → ((x : ℕ) → on x ≡ true → big on (far w x) ≡ false → is (taken w on (reversal w (next w on x))) ≡ was (taken w on x))
       → (d : ℕ) → along w h on keep .on d ≡ true
       → turns w h on keep is (along w h on keep .other d) ≡ turns w h on keep was d
   unfolding turns along sheet
   back-turns is was t d e =
-      rw (last-last w h n keep d, same-stop)
+      rw (last-last w h n keep d, stop-leads w h n keep)
       (count-back (λ x. was (taken w on x)) (λ x. is (taken w on x)) (sheet-chart w h n) (g .passes)
       (λ x o s. t x o (not-above a (far w x) (ap keep (sym (point-reversal w x)) ∙ s)))
       (g .covers) d (and-left (on d) (keep (point d)) e) (and-right (on d) (keep (point d)) e))
