@@ -1,4 +1,4 @@
 mod Accepted
-mod Counting
+mod Filling
 mod Told
 mod Worked

@@ -1,2 +1,3 @@
-// Depth and hole count of the regions of a drawing.
+// Depth and hole count of the regions of a drawing, and the turns of its curves.
 pub mod count;
+pub mod turns;

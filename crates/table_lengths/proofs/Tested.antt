@@ -3,7 +3,7 @@
 --   Each n ls       == each of the lengths ls is n
 --   lengths w h ns ds == the lengths ns of tables by name and ds of tables by dart are the stated ones
 use mathlib.Core.Path.{_≡_, refl, _∙_}
-use mathlib.Core.Bool.{Bool, true, false, not}
+use mathlib.Core.Bool.{Bool, true, false, not, and-true}
 use mathlib.Core.List.{List, [], _∷_, map}
 use Prim.Native.Nat.{ℕ, _+_, _*_}
 use lib.Dec.{eqb}
@@ -49,6 +49,11 @@ module _ (w h : ℕ) where
   pub each-dart : (ns ds : List ℕ) → lengths w h ns ds ≡ true → Each (slots w h) ds
   unfolding lengths
   each-dart ns ds e = all-each (slots w h) ds (and-right (allAre (w * h + 1) ns) (allAre (slots w h) ds) e)
+
+  -- of tables by name alone
+  pub name-lengths : (ts : List (List ℕ)) → lengths w h (map length ts) [] ≡ sized (w * h + 1) ts
+  unfolding lengths allAre every
+  name-lengths ts = and-true _ ∙ all-sized (w * h + 1) ts
 
   -- of tables by dart alone
   pub dart-lengths : (ts : List (List ℕ)) → lengths w h [] (map length ts) ≡ sized (slots w h) ts

@@ -1,7 +1,9 @@
 use mathlib.Core.Path.{_≡_, sym, _∙_}
 use Rattle.answer.specs.Answer.{numberOf}
+use Rattle.table_lengths.proofs.Tested.{each-name, name-lengths}
+use Rattle.count_call.specs.Tally.{tallied}
 use Rattle.count_call.proofs.Accepted.{accepted-clear, accepted-depths, accepted-holes, accepted-counts}
-use Rattle.count_call.proofs.Counting.{tally-long, tally-stopped, tally-refused, tally-done, first-same}
+use Rattle.count_call.proofs.Filling.{size-passed, fill-stopped, fill-refused, fill-done, first-same, both-same}
 use borrow.Author.Needs.{needs}
 use Rattle.count_call.proofs.count.counts.Statement.{statement}
 use Rattle.count_call.proofs.count.counts.Tie as tie
@@ -46,9 +48,11 @@ number-requires : tie.Need-number-requires
 number-requires c κs = tt
 
 returns : tie.Need-returns
+unfolding tallied
 returns c =
     let k = c .before in
-    tally-stopped _ _ _ _ _ _ _ (k .before .refusal .ensures) (λ z. c .if1 .taken (k .number .ensures ∙ z))
+    fill-stopped _ _ _ _ _ _ _ _ _ (name-lengths _ _ _) _ (k .before .refusal .ensures)
+    (λ z. c .if1 .taken (k .number .ensures ∙ z))
 
 check-requires : tie.Need-check-requires
 check-requires c κs = tt
@@ -69,27 +73,26 @@ same-length-4 : tie.Need-same-length-4
 same-length-4 c = checked (c .before) .check .kept .1 .1 .1 .1 .1 .1 .1 .1 .1 .1 .0
 
 returns-2 : tie.Need-returns-2
+unfolding tallied
 returns-2 c =
     let a = c .before in
     let k = checked a in
     let s = sized k in
     let z = sym (s .number .ensures) ∙ k .before .before .before .before .before .if1 .left in
-    tally-refused _ _ _ _ _ _ _ (s .before .refusal .ensures) z _ _ (k .check .ensures)
+    fill-refused _ _ _ _ _ _ _ _ _ (name-lengths _ _ _) _ (s .before .refusal .ensures) z _ _ (k .check .ensures)
     (λ z. c .if2 .taken (a .number2 .ensures ∙ z))
 
 all-depths-requires : tie.Need-all-depths-requires
 all-depths-requires c κs =
     let e = c .before in
     let k = asked e in
-    let l = tally-long _ _ _ _ _ (sized k .before .refusal .ensures) (sized-done e) in
-    accepted-depths _ _ _ _ _ _ _ _ (k .check .ensures) (checked-done e) _ (l .0)
+    accepted-depths _ _ _ _ _ _ _ _ (k .check .ensures) (checked-done e) _ (each-name _ _ _ _ (size-passed _ _ _ _ (sized k .before .refusal .ensures) (sized-done e)) .0)
 
 all-holes-requires : tie.Need-all-holes-requires
 all-holes-requires c κs =
     let e = c .before .before .before .before .before .before in
     let k = asked e in
-    let l = tally-long _ _ _ _ _ (sized k .before .refusal .ensures) (sized-done e) in
-    accepted-holes _ _ _ _ _ _ _ _ (k .check .ensures) (checked-done e) _ (l .1 .0)
+    accepted-holes _ _ _ _ _ _ _ _ (k .check .ensures) (checked-done e) _ (each-name _ _ _ _ (size-passed _ _ _ _ (sized k .before .refusal .ensures) (sized-done e)) .1 .0)
 
 same-length-5 : tie.Need-same-length-5
 same-length-5 c = deepened (end c) .all-depths .kept .1 .0
@@ -112,14 +115,16 @@ same-length-10 : tie.Need-same-length-10
 same-length-10 c = asked (done (deepened (end c))) .check .kept .1 .1 .1 .1 .1 .1 .1 .1 .1 .1 .0
 
 returns-3 : tie.Need-returns-3
+unfolding tallied
 returns-3 c =
     let f = end c in
     let d = deepened f in
     let e = done d in
     let k = asked e in
     let z = checked-done e in
-    tally-done _ _ _ _ _ _ _ (sized k .before .refusal .ensures) (sized-done e) _ _ (k .check .ensures) z _ _
-    (d .all-depths .ensures) (f .all-holes .ensures .0 ∙ accepted-counts _ _ _ _ _ _ _ _ (k .check .ensures) z) _
+    fill-done _ _ _ _ _ _ _ _ _ (name-lengths _ _ _) _ (sized k .before .refusal .ensures) (sized-done e) _ _ (k .check .ensures) z _ _
+    (both-same (d .all-depths .ensures)
+    (f .all-holes .ensures .0 ∙ accepted-counts _ _ _ _ _ _ _ _ (k .check .ensures) z))
     (first-same _ (f .all-holes .ensures .1 ∙ accepted-clear _ _ _ _ _ _ _ _ (k .check .ensures) z))
 
 pub counts-spec : {M : Type 1} → statement M
