@@ -88,10 +88,10 @@ pub fn kinds() -> Vec<Kind> {
         Kind { name: "small", seconds: 5, cases: sheets::all_small().len(), sheet: small, compare: everything },
         // the levels of a sheet of any size
         Kind { name: "levels", seconds: 6, cases: 4000, sheet: any, compare: levels },
-        // drawing a sheet of any size, checking the drawing, and counting in it
-        Kind { name: "drawings", seconds: 11, cases: 4000, sheet: any, compare: drawings },
+        // drawing a sheet of any size, checking the drawing, and counting in it, turns too
+        Kind { name: "drawings", seconds: 11, cases: 3600, sheet: any, compare: drawings },
         // joins in a sheet up to 20 by 20, until no two regions share a line
-        Kind { name: "joins", seconds: 22, cases: 2400, sheet: middling, compare: joins },
+        Kind { name: "joins", seconds: 22, cases: 2200, sheet: middling, compare: joins },
         // such joins in a sheet of 72 by 72 or of 110 by 72
         Kind { name: "large joins", seconds: 5, cases: 9, sheet: large, compare: joins },
         // such joins in a sheet of many regions
@@ -99,11 +99,11 @@ pub fn kinds() -> Vec<Kind> {
         // joins and counts of names that are 0, equal, unused, too large or far apart
         Kind { name: "names", seconds: 6, cases: 4000, sheet: middling, compare: names },
         // tables that are most often no drawing, of a sheet up to 20 by 20
-        Kind { name: "damage", seconds: 7, cases: 16000, sheet: middling, compare: damage },
+        Kind { name: "damage", seconds: 7, cases: 14000, sheet: middling, compare: damage },
         // such tables of a sheet of any size
-        Kind { name: "large damage", seconds: 10, cases: 3000, sheet: any, compare: damage },
+        Kind { name: "large damage", seconds: 10, cases: 2600, sheet: any, compare: damage },
         // lengths and sizes that are not the stated ones, for a sheet up to 9 by 9
-        Kind { name: "lengths", seconds: 4, cases: 900, sheet: little, compare: lengths },
+        Kind { name: "lengths", seconds: 4, cases: 800, sheet: little, compare: lengths },
         // such lengths and sizes for a sheet of any size
         Kind { name: "large lengths", seconds: 1, cases: 15, sheet: any, compare: lengths },
         // writing a deck, reading it, and reading decks changed in one or two ways
@@ -206,6 +206,11 @@ fn counts(random: &mut Random, size: Size, five: &Five) -> Request {
     words(Call::Counts, sized_numbers(size, &[]), with_works(random, size, tables))
 }
 
+fn turns(random: &mut Random, size: Size, five: &Five) -> Request {
+    let tables = [list(five.clone()), vec![junk(random, size.slots()), junk(random, size.slots())]].concat();
+    words(Call::Turns, sized_numbers(size, &[]), with_works(random, size, tables))
+}
+
 fn read(random: &mut Random, deck: Vec<u8>) -> Request {
     let tables = vec![junk(random, CELLS), junk(random, 2), junk(random, 1)];
     Request { call: Call::Read, numbers: vec![], tables, bytes: deck }
@@ -237,6 +242,7 @@ fn drawings(both: &mut Both, sheet: &Sheet, random: &mut Random) -> Same {
     let five = drawn(&both.same(draw(random, sheet))?.tables[1..]);
     both.same(check(random, sheet.size, &five))?;
     both.same(counts(random, sheet.size, &five))?;
+    both.same(turns(random, sheet.size, &five))?;
     let name = random.one_of(&used(&five));
     both.same(count(random, Call::Depth, sheet.size, &five, name))?;
     both.same(count(random, Call::Holes, sheet.size, &five, name))?;
@@ -296,9 +302,11 @@ fn joins(both: &mut Both, sheet: &Sheet, random: &mut Random) -> Same {
         if random.once_in(8) {
             both.same(join(random, size, &five, a, b))?;
             both.same(counts(random, size, &five))?;
+            both.same(turns(random, size, &five))?;
         }
     }
     both.same(check(random, size, &five))?;
+    both.same(turns(random, size, &five))?;
     Ok(())
 }
 
@@ -460,6 +468,7 @@ fn damage(both: &mut Both, sheet: &Sheet, random: &mut Random) -> Same {
     both.same(count(random, Call::Depth, size, &five, a))?;
     both.same(count(random, Call::Holes, size, &five, b))?;
     both.same(counts(random, size, &five))?;
+    both.same(turns(random, size, &five))?;
     Ok(())
 }
 
@@ -556,6 +565,7 @@ fn lengths(both: &mut Both, sheet: &Sheet, random: &mut Random) -> Same {
         count(random, Call::Depth, size, &five, name),
         count(random, Call::Holes, size, &five, name),
         counts(random, size, &five),
+        turns(random, size, &five),
         read(random, deck.clone()),
         write(random, written),
         part_refusal(text.width().min(COLUMNS as u16), deck[CARD..2 * CARD].to_vec()),

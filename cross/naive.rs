@@ -181,11 +181,25 @@ impl Level {
     }
 }
 
-/// The direction of the line that follows at a point where these lines are present: the first of right turn, straight
-/// on, left turn and back, 4 where no line is present.
-pub fn next_line(present: u16, heading: u16) -> u16 {
-    let turns = [heading + 1, heading, heading + 3, heading + 2];
-    turns.into_iter().map(|turn| turn % 4).find(|turn| present >> turn & 1 == 1).unwrap_or(4)
+/// How a line is followed by the next one at a point; none where no line is present there.
+#[derive(Clone, Copy, PartialEq, Eq, Debug)]
+pub enum Turn {
+    Right,
+    Straight,
+    Left,
+    Back,
+    None,
+}
+
+/// The direction of the line that follows at a point where these lines are present, and the turn into it: the first of
+/// right turn, straight on, left turn and back. Direction 4 and no turn where no line is present.
+pub fn next_line(present: u16, heading: u16) -> (u16, Turn) {
+    let turns = [(1, Turn::Right), (0, Turn::Straight), (3, Turn::Left), (2, Turn::Back)];
+    turns
+        .into_iter()
+        .map(|(quarters, turn)| ((heading + quarters) % 4, turn))
+        .find(|(direction, _)| present >> direction & 1 == 1)
+        .unwrap_or((4, Turn::None))
 }
 
 /// The level whose darts are those that `present` says: next is the line that follows at the far point, other is the
@@ -195,7 +209,8 @@ fn lines(size: Size, names: &[u16], present: impl Fn(usize) -> bool) -> Level {
     for dart in (0..size.slots()).filter(|&d| present(d)) {
         let far = size.far(dart).expect("a line on the sheet");
         let there = (0..4).filter(|k| present(4 * far + k)).map(|k| 1 << k).sum();
-        level.next[dart] = 4 * far as u16 + next_line(there, dart as u16 % 4);
+        let (direction, _) = next_line(there, dart as u16 % 4);
+        level.next[dart] = 4 * far as u16 + direction;
         level.other[dart] = size.reversal(dart) as u16;
         level.side[dart] = side(size, names, dart);
     }
@@ -215,6 +230,11 @@ fn level_1(size: Size, names: &[u16]) -> Level {
 /// The darts of a table that leave a point.
 fn leaving(table: &[u16], point: usize) -> Vec<usize> {
     (4 * point..4 * point + 4).filter(|&dart| table[dart] != MARK).collect()
+}
+
+/// The lines of a table present at a point: east 1, south 2, west 4, north 8.
+fn lines_at(table: &[u16], point: usize) -> u16 {
+    leaving(table, point).iter().map(|dart| 1 << (dart % 4)).sum()
 }
 
 /// Points of degree 3 or 4.
@@ -268,14 +288,22 @@ fn kept_3(size: Size, level_1: &Level) -> Vec<bool> {
     kept
 }
 
+/// The level 1 darts met by following next from a dart to the next kept point, the first of them the dart itself.
+fn run(size: Size, next: &[u16], kept: &[bool], dart: usize) -> Vec<usize> {
+    let mut met = vec![dart];
+    let mut last = dart;
+    while !kept[size.far(last).expect("a line on the sheet")] {
+        last = next[last] as usize;
+        met.push(last);
+    }
+    met
+}
+
 /// The level whose points are the kept ones: run from each dart that leaves one along level 1 to the next.
 fn runs(size: Size, level_1: &Level, kept: &[bool]) -> Level {
     let mut level = Level::empty(size);
     for dart in (0..size.slots()).filter(|&d| level_1.next[d] != MARK && kept[d / 4]) {
-        let mut last = dart;
-        while !kept[size.far(last).expect("a line on the sheet")] {
-            last = level_1.next[last] as usize;
-        }
+        let last = *run(size, &level_1.next, kept, dart).last().expect("a dart");
         level.other[dart] = size.reversal(last) as u16;
         level.next[dart] = level_1.next[last];
         level.side[dart] = level_1.side[dart];
@@ -468,9 +496,8 @@ pub fn what_becomes(size: Size, five: &Five, a: u16, b: u16, point: usize) -> [u
 }
 
 fn becoming(before: &Five, after: &Five, point: usize) -> [u16; 3] {
-    let mask = |five: &Five| leaving(&five.next1, point).iter().map(|dart| 1 << (dart % 4)).sum::<u16>();
-    let present = mask(before);
-    let taken = present & !mask(after);
+    let present = lines_at(&before.next1, point);
+    let taken = present & !lines_at(&after.next1, point);
     [present, taken, point_table(present, taken)]
 }
 
@@ -548,6 +575,24 @@ fn rename(size: Size, five: &mut Five, a: u16, b: u16) {
     }
     let old = five.parent.clone();
     five.parent = parents(size, &five.side1, |name| name != larger as usize && old[name] != MARK);
+}
+
+// ---------------------------------------------------------------------------------------------------------------------
+// The turns of the curves
+
+/// The right turns and the left turns strictly inside the run of a level 3 dart: those taken at the points that the run
+/// passes and level 3 does not keep.
+fn turns(size: Size, five: &Five, kept: &[bool], dart: usize) -> (u16, u16) {
+    let run = run(size, &five.next1, kept, dart);
+    let passes = &run[..run.len() - 1];
+    let turn = |&line: &usize| {
+        let point = size.far(line).expect("a line on the sheet");
+        let (direction, turn) = next_line(lines_at(&five.next1, point), line as u16 % 4);
+        assert!(five.next1[line] == 4 * point as u16 + direction, "next of dart {line} is not the next line");
+        turn
+    };
+    let taken = |which: Turn| passes.iter().map(turn).filter(|&turn| turn == which).count() as u16;
+    (taken(Turn::Right), taken(Turn::Left))
 }
 
 // ---------------------------------------------------------------------------------------------------------------------
@@ -687,6 +732,26 @@ pub fn counts_call(
         let used = name == 0 || is_named(&names, name as u16);
         depths[name] = if used { depth(&five.parent, name as u16) } else { MARK };
         all_holes[name] = if used { holes(size, &tops, &five.parent, name as u16) } else { MARK };
+    }
+    0
+}
+
+/// The turns of every level 3 dart, the mark at every other slot. Travelled the other way, a curve's right turns are left
+/// turns, which is looked at here.
+pub fn turns_call(width: u16, height: u16, five: &Five, right: &mut [u16], left: &mut [u16], works: &mut Works) -> u16 {
+    let fit = |size: Size| right.len() == size.slots() && left.len() == size.slots();
+    let (size, _) = match checked(width, height, five, fit, works) {
+        Ok(checked) => checked,
+        Err(number) => return number,
+    };
+    let kept: Vec<bool> = (0..size.points()).map(|point| !leaving(&five.next3, point).is_empty()).collect();
+    for dart in 0..size.slots() {
+        let is_dart = five.next3[dart] != MARK;
+        (right[dart], left[dart]) = if is_dart { turns(size, five, &kept, dart) } else { (MARK, MARK) };
+    }
+    for dart in (0..size.slots()).filter(|&d| five.next3[d] != MARK) {
+        let other = five.other3[dart] as usize;
+        assert!((right[dart], left[dart]) == (left[other], right[other]), "the turns of {dart} and {other}, its other");
     }
     0
 }

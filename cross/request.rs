@@ -18,6 +18,7 @@ pub enum Call {
     Depth,
     Holes,
     Counts,
+    Turns,
     Read,
     Write,
     PartRefusal,
@@ -54,6 +55,7 @@ impl Call {
             Call::Depth => [&FIVE[..], &["depth"], &WORKS].concat(),
             Call::Holes => [&FIVE[..], &["holes"], &WORKS].concat(),
             Call::Counts => [&FIVE[..], &["depths", "holes"], &WORKS].concat(),
+            Call::Turns => [&FIVE[..], &["right", "left"], &WORKS].concat(),
             Call::Read => vec!["cells", "size", "card"],
             Call::Write => vec!["sheet"],
             Call::PartRefusal => vec![],
@@ -103,12 +105,13 @@ impl Request {
                 let answer = call(number(0), number(1), &five, number(2), &mut slot[0], &mut works);
                 (answer, lay([list(five), vec![slot]].concat(), works))
             }
-            Call::Counts => {
+            Call::Counts | Call::Turns => {
                 let five = five(&mut table);
-                let (mut depths, mut holes) = (table(), table());
+                let (mut first, mut second) = (table(), table());
                 let mut works = [table(), table(), table(), table()];
-                let answer = naive::counts_call(number(0), number(1), &five, &mut depths, &mut holes, &mut works);
-                (answer, lay([list(five), vec![depths, holes]].concat(), works))
+                let call = if self.call == Call::Counts { naive::counts_call } else { naive::turns_call };
+                let answer = call(number(0), number(1), &five, &mut first, &mut second, &mut works);
+                (answer, lay([list(five), vec![first, second]].concat(), works))
             }
             Call::Read => {
                 let (mut cells, size, mut card) = (table(), table(), table());

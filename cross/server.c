@@ -19,7 +19,7 @@ typedef uint32_t u32;
 enum { ROOM = 1 << 22, GUARD = 64, GUARD_BYTE = 0xA5, MOST_TABLES = 13, MOST_NUMBERS = 4 };
 
 /* A request's call, in the order of request.rs. */
-enum { LEVEL, DRAW, CHECK, JOIN, DEPTH, HOLES, COUNTS, READ, WRITE, PART_REFUSAL };
+enum { LEVEL, DRAW, CHECK, JOIN, DEPTH, HOLES, COUNTS, TURNS, READ, WRITE, PART_REFUSAL };
 
 static u8 request[ROOM];
 static u32 request_length, request_at;
@@ -138,6 +138,9 @@ static u16 call(u32 which, u32 given) {
     case COUNTS:
         need(given == 2 && tables == 11);
         return raimenolta_counts(n[0], n[1], FIVE(0), TABLE(5), TABLE(6), WORKS(7));
+    case TURNS:
+        need(given == 2 && tables == 11);
+        return raimenolta_turns(n[0], n[1], FIVE(0), TABLE(5), TABLE(6), WORKS(7));
     case READ:
         need(given == 0 && tables == 3 && length[1] == 2 && length[2] == 1);
         return raimenolta_read(bytes, bytes_length, TABLE(0), table[1], table[2]);

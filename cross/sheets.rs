@@ -132,6 +132,29 @@ fn spiral(size: Size, wall: u16, ground: u16) -> Sheet {
     sheet
 }
 
+/// Passages one cell wide in a wall, none along the rim, each with one way on to the east or to the south. Their border is one
+/// closed curve of very many turns.
+fn passages(random: &mut Random, size: Size, wall: u16, ground: u16) -> Sheet {
+    let mut sheet = Sheet::from(size, |_, _| wall);
+    for y in (1..size.height.saturating_sub(1)).step_by(2) {
+        for x in (1..size.width.saturating_sub(1)).step_by(2) {
+            let cell = y * size.width + x;
+            let mut ways = Vec::new();
+            if x + 3 < size.width {
+                ways.push(cell + 1);
+            }
+            if y + 3 < size.height {
+                ways.push(cell + size.width);
+            }
+            sheet.labels[cell] = ground;
+            if !ways.is_empty() {
+                sheet.labels[random.one_of(&ways)] = ground;
+            }
+        }
+    }
+    sheet
+}
+
 /// Rectangles painted one over another.
 fn painted(random: &mut Random, size: Size, colours: &[u16]) -> Sheet {
     let mut sheet = Sheet::from(size, |_, _| colours[0]);
@@ -153,7 +176,7 @@ pub fn sheet(random: &mut Random, size: Size) -> Sheet {
     let few = 2 + random.below(4);
     let colours = palette(random, few);
     let (a, b) = (colours[0], colours[1]);
-    match random.below(16) {
+    match random.below(17) {
         0 => Sheet::from(size, |_, _| a),
         1 => {
             let start = random.word();
@@ -179,6 +202,7 @@ pub fn sheet(random: &mut Random, size: Size) -> Sheet {
             Sheet::from(size, |_, _| random.one_of(&many))
         }
         13 => Sheet::from(size, |_, _| random.word()),
+        14 => passages(random, size, a, b),
         _ => speckled(random, size, few),
     }
 }

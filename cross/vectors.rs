@@ -15,10 +15,12 @@
 //!   t03_part.txt         width; card; number; part
 //!   t03_joins.txt        as joins.txt, with two tables more
 //!   t04_next.txt         present heading; direction, 4 for none
+//!   t05_next.txt         present heading; direction and turn, 4 none for none
+//!   t05_turns.txt        W H; labels; joins as in t02_counts.txt; dart other right left of each level 3 edge, by its smaller dart
 //!   t07_point_table.txt  present taken; entry
 //!   t07_joins.txt        W H; labels; a b; present taken entry of each point; the tables after the join, five or more
 
-use crate::naive::{self, Five, Level, Size, Works, MARK};
+use crate::naive::{self, Five, Level, Size, Turn, Works, MARK};
 use std::path::Path;
 
 fn numbers(field: &str) -> Vec<u16> {
@@ -85,16 +87,20 @@ fn drawing(fields: &[Vec<u16>]) -> bool {
     drawn == five(&fields[2..7]) && regions.eq(by_name(size, &fields[7]))
 }
 
+/// The drawing of a sheet after some joins, or none where a join is refused.
+fn after_joins(fields: &[Vec<u16>]) -> Option<Five> {
+    let size = size(&fields[0]);
+    let mut drawing = naive::draw(size, &fields[1]);
+    let mut join = |a, b| naive::join_call(fields[0][0], fields[0][1], &mut drawing, a, b, &mut works(size));
+    let accepted = fields[2].chunks(2).all(|pair| join(pair[0], pair[1]) == 0);
+    accepted.then_some(drawing)
+}
+
 /// Depth and holes after some joins, of all names at once and of each.
 fn counts(fields: &[Vec<u16>]) -> bool {
     let size = size(&fields[0]);
-    let mut drawing = naive::draw(size, &fields[1]);
     let (width, height) = (fields[0][0], fields[0][1]);
-    for pair in fields[2].chunks(2) {
-        if naive::join_call(width, height, &mut drawing, pair[0], pair[1], &mut works(size)) != 0 {
-            return false;
-        }
-    }
+    let Some(drawing) = after_joins(fields) else { return false };
     let one = |call: CountCall, name| {
         let mut value = 7;
         (call(width, height, &drawing, name, &mut value, &mut works(size)) == 0).then_some(value)
@@ -138,7 +144,43 @@ fn join(fields: &[Vec<u16>]) -> bool {
 }
 
 fn next_line(fields: &[Vec<u16>]) -> bool {
-    naive::next_line(fields[0][0], fields[0][1]) == fields[1][0]
+    naive::next_line(fields[0][0], fields[0][1]).0 == fields[1][0]
+}
+
+/// The direction of the next line and the turn into it, the turn as a word.
+fn next_turn(line: &str) -> bool {
+    let fields: Vec<&str> = line.split(';').collect();
+    let lines = numbers(fields[0]);
+    let (direction, turn) = naive::next_line(lines[0], lines[1]);
+    let word = match turn {
+        Turn::Right => "right",
+        Turn::Straight => "straight",
+        Turn::Left => "left",
+        Turn::Back => "back",
+        Turn::None => "none",
+    };
+    fields[1].split_whitespace().eq([direction.to_string().as_str(), word])
+}
+
+/// The turns after some joins, at every slot. Those of an edge's larger dart are those of its smaller one exchanged.
+fn turns(fields: &[Vec<u16>]) -> bool {
+    let size = size(&fields[0]);
+    let Some(drawing) = after_joins(fields) else { return false };
+    let mut expected = (vec![MARK; size.slots()], vec![MARK; size.slots()]);
+    for edge in fields[3].chunks(4) {
+        let (dart, other) = (edge[0] as usize, edge[1] as usize);
+        if dart > other || drawing.other3[dart] as usize != other {
+            return false;
+        }
+        (expected.0[dart], expected.1[dart]) = (edge[2], edge[3]);
+        (expected.0[other], expected.1[other]) = (edge[3], edge[2]);
+    }
+    let mut turned = (vec![7; size.slots()], vec![7; size.slots()]);
+    let mut works = works(size);
+    let (right, left) = (&mut turned.0, &mut turned.1);
+    naive::turns_call(fields[0][0], fields[0][1], &drawing, right, left, &mut works) == 0
+        && turned == expected
+        && clear(&works)
 }
 
 fn point_table(fields: &[Vec<u16>]) -> bool {
@@ -225,6 +267,8 @@ pub fn run(folder: &Path) -> bool {
         file(folder, "requests/t03_part.txt", part),
         file(folder, "requests/t03_joins.txt", fields(join)),
         file(folder, "requests/t04_next.txt", fields(next_line)),
+        file(folder, "requests/t05_next.txt", next_turn),
+        file(folder, "requests/t05_turns.txt", fields(turns)),
         file(folder, "requests/t07_point_table.txt", fields(point_table)),
         file(folder, "requests/t07_joins.txt", fields(join_by_points)),
     ];

@@ -190,6 +190,26 @@ uint16_t raimenolta_counts(
     uint16_t *work_d, size_t work_d_length);
 
 /*
+ * The turns of every curve at once: of each level 3 dart, the right turns and the left turns taken strictly inside its run
+ * along next1 to the next point that level 3 keeps, so without those at the run's two end points. The turns of its other are
+ * the same two numbers exchanged. Reads the five tables (RAIMENOLTA_SLOTS each, parent RAIMENOLTA_NAMES), writes right and
+ * left (RAIMENOLTA_SLOTS each), by dart, RAIMENOLTA_NONE at a slot without a level 3 dart. Refusals 1, 4, 5.
+ */
+uint16_t raimenolta_turns(
+    uint16_t width, uint16_t height,
+    const uint16_t *next1, size_t next1_length,
+    const uint16_t *side1, size_t side1_length,
+    const uint16_t *next3, size_t next3_length,
+    const uint16_t *other3, size_t other3_length,
+    const uint16_t *parent, size_t parent_length,
+    uint16_t *right, size_t right_length,
+    uint16_t *left, size_t left_length,
+    uint16_t *work_a, size_t work_a_length,
+    uint16_t *work_b, size_t work_b_length,
+    uint16_t *work_c, size_t work_c_length,
+    uint16_t *work_d, size_t work_d_length);
+
+/*
  * Reads a land deck of either form: reads deck (of any length), writes cells (RAIMENOLTA_CELLS), the labels in row order
  * and 0 after them, and the two numbers W and H at size. Refusals 26, then card by card 25, 20, 22, then 21 for the
  * header or 23 and 24 from the left for a row's card, and last 25 for bytes after the last card. A refusal writes the one

@@ -90,8 +90,17 @@ fn region_line(
     text::byte(page, at, b'\n')
 }
 
-// The line of an edge: its smaller dart, the other, and the sides of the two.
-fn curve_line(page: &mut Page, from: usize, dart: u16, other: u16, side: u16, beyond: u16) -> usize
+// The line of an edge: its smaller dart, the other, the sides of the two, and the right turns and the left turns from the smaller.
+fn curve_line(
+    page: &mut Page,
+    from: usize,
+    dart: u16,
+    other: u16,
+    side: u16,
+    beyond: u16,
+    right: u16,
+    left: u16,
+) -> usize
     requires { ⌜ from ≤ 65536 ⌝ }
     ensures { λ r. ⌜ r ≤ 65536 ⌝ }
 {
@@ -100,6 +109,8 @@ fn curve_line(page: &mut Page, from: usize, dart: u16, other: u16, side: u16, be
     at = field(page, at, other);
     at = field(page, at, side);
     at = field(page, at, beyond);
+    at = field(page, at, right);
+    at = field(page, at, left);
     text::byte(page, at, b'\n')
 }
 
@@ -155,7 +166,15 @@ fn regions(
 }
 
 // The line of an edge where the dart is the smaller of its two.
-fn curve(page: &mut Page, at: usize, dart: u16, other3: &[u16], side1: &[u16]) -> usize
+fn curve(
+    page: &mut Page,
+    at: usize,
+    dart: u16,
+    other3: &[u16],
+    side1: &[u16],
+    right: &[u16],
+    left: &[u16],
+) -> usize
     requires { ⌜ at ≤ 65536 ⌝ }
     ensures { λ r. ⌜ r ≤ 65536 ⌝ }
 {
@@ -173,11 +192,20 @@ fn curve(page: &mut Page, at: usize, dart: u16, other3: &[u16], side1: &[u16]) -
         other,
         entry::get(side1, dart),
         entry::get(side1, other),
+        entry::get(right, dart),
+        entry::get(left, dart),
     )
 }
 
 // The lines of the edges of level 3, by their smaller dart.
-fn curves(page: &mut Page, from: usize, other3: &[u16], side1: &[u16]) -> usize
+fn curves(
+    page: &mut Page,
+    from: usize,
+    other3: &[u16],
+    side1: &[u16],
+    right: &[u16],
+    left: &[u16],
+) -> usize
     requires { ⌜ from ≤ 65536 ⌝ }
     ensures { λ r. ⌜ r ≤ 65536 ⌝ }
 {
@@ -185,7 +213,7 @@ fn curves(page: &mut Page, from: usize, other3: &[u16], side1: &[u16]) -> usize
     let mut at = from;
     let mut i: u16 = 0;
     while i < n {
-        at = curve(page, at, i, other3, side1);
+        at = curve(page, at, i, other3, side1, right, left);
         i += 1;
     }
     at
@@ -201,6 +229,8 @@ pub(crate) fn listing(
     holes: &[u16],
     other3: &[u16],
     side1: &[u16],
+    right: &[u16],
+    left: &[u16],
 ) {
     let mut page = io::large_buffer();
     let mut at = sheet_line(
@@ -211,6 +241,6 @@ pub(crate) fn listing(
         entries(other3) / 2,
     );
     at = regions(&mut page, at, sheet, parent, depths, holes);
-    at = curves(&mut page, at, other3, side1);
+    at = curves(&mut page, at, other3, side1, right, left);
     text::write_out(&page, at);
 }

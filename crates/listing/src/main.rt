@@ -3,6 +3,7 @@
 mod lines;
 mod text;
 
+use count_turns::turns;
 use deck_card::answer::Read;
 use deck_card::card::LONG;
 use deck_reading::read::CELLS;
@@ -42,6 +43,12 @@ struct Counted {
     number: u16,
     depths: [u16; SLOTS],
     holes: [u16; SLOTS],
+}
+
+// The right turns and the left turns of each dart of level 3.
+struct Turned {
+    right: [u16; SLOTS],
+    left: [u16; SLOTS],
 }
 
 // Draws a sheet. One that was read is not refused; were it, the tables would be no drawing.
@@ -126,19 +133,52 @@ fn count(width: u16, height: u16, slots: usize, names: usize, tables: Tables) ->
     }
 }
 
+// How many slots of darts a sheet has.
+fn slots_of(width: u16, height: u16) -> usize
+    requires { ⌜ within width height ≡ true ⌝ }
+    ensures { λ r. ⌜ (r ≡ slots width height) × (r ≤ room) ⌝ }
+{
+    dart::slots(width, height) as usize
+}
+
+// Counts the turns of the curves of a drawing.
+fn turn(width: u16, height: u16, tables: Tables) -> Turned
+    requires { ⌜ within width height ≡ true ⌝ }
+{
+    let slots = slots_of(width, height);
+    let next1 = tables.next1;
+    let next3 = tables.next3;
+    let lines: &[u16] = &next1;
+    let curves: &[u16] = &next3;
+    let mut right = [0u16; SLOTS];
+    let mut left = [0u16; SLOTS];
+    turns::all_turns(
+        width,
+        height,
+        &lines[..slots],
+        &curves[..slots],
+        &mut right[..slots],
+        &mut left[..slots],
+    );
+    Turned { right, left }
+}
+
 // Lists a drawing. One of a sheet that was read is not refused; were it, there would be no listing.
 fn list_drawing(width: u16, height: u16, sheet: &[u16], slots: usize, names: usize, tables: Tables)
-    requires { ⌜ (slots ≤ room) × (names ≤ room) ⌝ }
+    requires { ⌜ (slots ≤ room) × (names ≤ room) × (within width height ≡ true) ⌝ }
 {
     let counted = count(width, height, slots, names, tables);
     if counted.number != 0 {
         return;
     }
+    let turned = turn(width, height, tables);
     let parent = tables.parent;
     let depths = counted.depths;
     let holes = counted.holes;
     let other3 = tables.other3;
     let side1 = tables.side1;
+    let right = turned.right;
+    let left = turned.left;
     lines::listing(
         width,
         height,
@@ -148,6 +188,8 @@ fn list_drawing(width: u16, height: u16, sheet: &[u16], slots: usize, names: usi
         front(&holes, names),
         front(&other3, slots),
         front(&side1, slots),
+        front(&right, slots),
+        front(&left, slots),
     );
 }
 
@@ -157,14 +199,6 @@ fn cells_of(width: u16, height: u16) -> usize
     ensures { λ r. ⌜ (r ≡ width * height) × (r ≤ widest * tallest) ⌝ }
 {
     (width * height) as usize
-}
-
-// How many slots of darts a sheet has.
-fn slots_of(width: u16, height: u16) -> usize
-    requires { ⌜ within width height ≡ true ⌝ }
-    ensures { λ r. ⌜ (r ≡ slots width height) × (r ≤ room) ⌝ }
-{
-    dart::slots(width, height) as usize
 }
 
 // Lists a sheet, whose cells stand at the front of a table. A deck that is read gives a size; were it none, there would be

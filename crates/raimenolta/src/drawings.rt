@@ -1,11 +1,12 @@
-// What is asked of a drawing: whether it is one, to join two of its regions, the depth and the holes of its regions.
+// What is asked of a drawing: whether it is one, to join two of its regions, the depth and the holes of its regions,
+// and the turns of its curves.
 use check_call::check;
 ghost use mathlib.Core.Path.{_≡_};
 ghost use mathlib.Core.List.{[], _∷_, _++_};
 ghost use Rattle.paper.specs.Refusal.{ended, five, merged, deepened, holed};
 ghost use Rattle.table_lengths.specs.Given.{tables, works};
 ghost use Rattle.check_answer.specs.Check.{checked};
-ghost use Rattle.count_call.specs.Tally.{tallied};
+ghost use Rattle.count_call.specs.Tally.{tallied, traced};
 ghost use Rattle.join_call.specs.Faithful.{Faithful};
 ghost use Rattle.raimenolta.specs.Slot.{slotted};
 
@@ -242,6 +243,54 @@ pub extern "C" fn raimenolta_counts(
         parent,
         depths,
         holes,
+        work_a,
+        work_b,
+        work_c,
+        work_d,
+    );
+    answer.number()
+}
+
+// The right turns and the left turns of every dart of level 3, the mark at every other slot. Refusals 1, 4 and 5.
+#[no_mangle]
+pub extern "C" fn raimenolta_turns(
+    width: u16,
+    height: u16,
+    next1: &[u16],
+    side1: &[u16],
+    next3: &[u16],
+    other3: &[u16],
+    parent: &[u16],
+    right: &mut [u16],
+    left: &mut [u16],
+    work_a: &mut [u16],
+    work_b: &mut [u16],
+    work_c: &mut [u16],
+    work_d: &mut [u16],
+) -> u16
+    ensures { λ r. ⌜
+        ended r []
+        (five
+        (tables (now (next1 .entry)) (now (side1 .entry)) (now (next3 .entry)) (now (other3 .entry)) (now (parent .entry))) ++
+        now (right .exit) ∷ now (left .exit) ∷ [])
+        (works (now («work_a» .exit)) (now («work_b» .exit)) (now («work_c» .exit)) (now («work_d» .exit))) ≡
+        traced width height
+        (tables (now (next1 .entry)) (now (side1 .entry)) (now (next3 .entry)) (now (other3 .entry)) (now (parent .entry)))
+        (now (right .entry))
+        (now (left .entry))
+        (works (now («work_a» .entry)) (now («work_b» .entry)) (now («work_c» .entry)) (now («work_d» .entry)))
+        ⌝ }
+{
+    let answer = count_call::turns::turns(
+        width,
+        height,
+        next1,
+        side1,
+        next3,
+        other3,
+        parent,
+        right,
+        left,
         work_a,
         work_b,
         work_c,

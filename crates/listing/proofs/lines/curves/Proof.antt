@@ -4,10 +4,10 @@ use Rattle.listing.proofs.lines.curves.Statement.{statement}
 use Rattle.listing.proofs.lines.curves.Tie as tie
 
 abbrev Inv-loop : tie.InvT-loop
-Inv-loop page₀ from other3 side1 n at₀ i₀ page at i = at ≤ 65536
+Inv-loop page₀ from other3 side1 right left n at₀ i₀ page at i = at ≤ 65536
 
 abbrev μ-loop : tie.MeasureT-loop
-μ-loop page₀ from other3 side1 n at₀ i₀ page at i = n - i
+μ-loop page₀ from other3 side1 right left n at₀ i₀ page at i = n - i
 
 length-of-requires : tie.Need-length-of-requires Inv-loop μ-loop
 length-of-requires c κs = search needs
