@@ -43,29 +43,16 @@ fn turn_into(next: &[u16], dart: u16, after: u16) -> Turn
     turn::next_line(lines, Dart { number: dart }.direction()).turn
 }
 
-// 1 for a right turn, else 0.
-fn rights(turn: Turn) -> u16
-    ensures { λ r. ⌜ r ≡ number (isRight turn) ⌝ }
+// A turn, counted by its hand: one to the right or one to the left, or none.
+fn counted(turn: Turn) -> Turns
+    ensures { λ r. ⌜ (r .right ≡ number (isRight turn)) × (r .left ≡ number (isLeft turn)) ⌝ }
 {
     match turn {
-        Turn::Right => 1,
-        Turn::Straight => 0,
-        Turn::Left => 0,
-        Turn::Back => 0,
-        Turn::None => 0,
-    }
-}
-
-// 1 for a left turn, else 0.
-fn lefts(turn: Turn) -> u16
-    ensures { λ r. ⌜ r ≡ number (isLeft turn) ⌝ }
-{
-    match turn {
-        Turn::Right => 0,
-        Turn::Straight => 0,
-        Turn::Left => 1,
-        Turn::Back => 0,
-        Turn::None => 0,
+        Turn::Right => Turns { right: 1, left: 0 },
+        Turn::Straight => Turns { right: 0, left: 0 },
+        Turn::Left => Turns { right: 0, left: 1 },
+        Turn::Back => Turns { right: 0, left: 0 },
+        Turn::None => Turns { right: 0, left: 0 },
     }
 }
 
@@ -86,9 +73,9 @@ fn run(steps: u16, next: &[u16], start: u16, end: u16) -> Turns
         if after == end {
             return Turns { right, left };
         }
-        let turn = turn_into(next, dart, after);
-        right += rights(turn);
-        left += lefts(turn);
+        let one = counted(turn_into(next, dart, after));
+        right += one.right;
+        left += one.left;
         dart = after;
         after = entry::get(next, after);
         rest -= 1;

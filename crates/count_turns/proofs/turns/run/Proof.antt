@@ -27,28 +27,27 @@ returns c = going-stop _ _ _ _ _ _ _ _ _ (c .before .before .loop .inv) (c .if1 
 turn-into-requires : tie.Need-turn-into-requires Inv-loop μ-loop
 turn-into-requires c κs = c .before .before .before .before .before .pre
 
-rights-requires : tie.Need-rights-requires Inv-loop μ-loop
-rights-requires c κs = search needs
+counted-requires : tie.Need-counted-requires Inv-loop μ-loop
+counted-requires c κs = search needs
 
 add-right : tie.Need-add-right Inv-loop μ-loop
 add-right c =
-    let t = c .before in
+    let k = c .before in
+    let t = k .before in
     omega (
       arith,
       right-fits _ _ _ _ _ _ _ _ _ (round t .loop .inv) (t .before .before .loop-test .taken) (t .before .if1 .left) _
-          (t .turn-into .ensures) _ (c .rights .ensures),
+          (t .turn-into .ensures) _ (k .counted .ensures .0),
     )
-
-lefts-requires : tie.Need-lefts-requires Inv-loop μ-loop
-lefts-requires c κs = search needs
 
 add-left : tie.Need-add-left Inv-loop μ-loop
 add-left c =
-    let t = c .before .before in
+    let k = c .before .before in
+    let t = k .before in
     omega (
       arith,
       left-fits _ _ _ _ _ _ _ _ _ (round t .loop .inv) (t .before .before .loop-test .taken) (t .before .if1 .left) _
-          (t .turn-into .ensures) _ (c .lefts .ensures),
+          (t .turn-into .ensures) _ (k .counted .ensures .1),
     )
 
 get-requires-2 : tie.Need-get-requires-2 Inv-loop μ-loop
@@ -62,10 +61,10 @@ loop-less c = omega arith
 
 loop-again : tie.Need-loop-again Inv-loop μ-loop
 loop-again c =
-    let k = c .before in
-    let t = k .before .before in
+    let k = c .before .before .before in
+    let t = k .before in
     going-more _ _ _ _ _ _ _ _ _ (round t .loop .inv) (t .before .before .loop-test .taken) (t .before .if1 .left)
-    _ (t .turn-into .ensures) _ _ _ (k .before .rights .ensures) (k .lefts .ensures) (c .get2 .ensures)
+    _ (t .turn-into .ensures) _ _ _ (k .counted .ensures .0) (k .counted .ensures .1) (c .get2 .ensures)
 
 returns-2 : tie.Need-returns-2 Inv-loop μ-loop
 returns-2 c = going-out _ _ _ _ _ _ _ _ _ (c .before .loop .inv) (c .loop-test .left)
@@ -80,9 +79,8 @@ run-spec =
     loop-holds
     returns
     turn-into-requires
-    rights-requires
+    counted-requires
     add-right
-    lefts-requires
     add-left
     get-requires-2
     sub-rest
