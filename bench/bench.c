@@ -1,6 +1,6 @@
 /* The library's speed as ratios to plain C (plain.c), both compiled for this machine and measured in one run.
  *
- * A batch of sheets is drawn, then checked, then joined, each by one side and then by the other, on buffers that are warm,
+ * A batch of sheets is drawn, then checked, its turns counted, then joined, each by one side and then by the other, on buffers that are warm,
  * in several rounds. Of each sheet, place and job the least of the rounds counts, and the times of all sheets are added.
  * Random sheets are so many that the machine cannot learn which way the branches go, neither from one round to the next
  * nor from a sheet's drawing to its check. The answers of both sides are compared. Prints tables in Markdown. */
@@ -28,6 +28,12 @@ enum { MARK = 65535, MONOTONIC = 1, ERRORS = 2 };
 #define PLAIN_WIDEST 72
 #endif
 
+/* One from before the turns of curves does not count them; their columns are then left out. */
+#ifndef PLAIN_TURNS
+#define PLAIN_TURNS 0
+#define plain_turns(width, height, five, right, left) 0
+#endif
+
 /* The sizes that are measured, the widest where the rival takes it, and the kinds of sheets. */
 enum { LEAST = 4, TALLEST = 72, WIDEST = 110, KINDS = 5 };
 enum { AT_18 = 2, AT_72 = 4, AT_WIDEST = 5, SIZES = PLAIN_WIDEST < WIDEST ? AT_WIDEST : AT_WIDEST + 1, FOUR_LABELS = 1 };
@@ -44,9 +50,9 @@ enum { SQUARE = 72 * 72, CELLS = 4 * SQUARE, BATCHES = 10, ROUNDS = 8, PLACES = 
 /* The most sheets of a batch, and its most slots and names: those of the smallest sheets. */
 enum { MOST = CELLS / (LEAST * LEAST), SLOTS = 4 * (LEAST + 1) * (LEAST + 1) * MOST, NAMES = (LEAST * LEAST + 1) * MOST };
 
-/* Room for the five tables of each sheet of a batch, the tables of one side. */
+/* Room for the five tables of each sheet of a batch and its two tables of turns, the tables of one side. */
 struct room {
-    u16 next1[SLOTS], side1[SLOTS], next3[SLOTS], other3[SLOTS], parent[NAMES];
+    u16 next1[SLOTS], side1[SLOTS], next3[SLOTS], other3[SLOTS], parent[NAMES], right[SLOTS], left[SLOTS];
 };
 
 static struct room our_room, plain_room;
@@ -74,6 +80,9 @@ static void need(int holds, const char *what) {
 struct hand {
     const u16 *sheet;
     struct five our, plain;
+    struct turns {
+        u16 *right, *left;
+    } our_turns, plain_turns;
     int a, b;
 };
 
@@ -83,14 +92,24 @@ static struct five tables(struct room *room, int n) {
                          room->parent + n * (cells + 1)};
 }
 
+static struct turns turns(struct room *room, int n) {
+    return (struct turns){room->right + n * slots, room->left + n * slots};
+}
+
 static struct hand take(int n) {
-    return (struct hand){batch + n * cells, tables(&our_room, n), tables(&plain_room, n), 0, 0};
+    return (struct hand){batch + n * cells,   tables(&our_room, n),  tables(&plain_room, n),
+                         turns(&our_room, n), turns(&plain_room, n), 0, 0};
 }
 
 static int same(struct five a, struct five b) {
     unsigned long links = sizeof(u16) * (unsigned long)slots;
     return !memcmp(a.next1, b.next1, links) && !memcmp(a.side1, b.side1, links) && !memcmp(a.next3, b.next3, links) &&
            !memcmp(a.other3, b.other3, links) && !memcmp(a.parent, b.parent, sizeof(u16) * (unsigned long)(cells + 1));
+}
+
+static int same_turns(struct turns a, struct turns b) {
+    unsigned long each = sizeof(u16) * (unsigned long)slots;
+    return !memcmp(a.right, b.right, each) && !memcmp(a.left, b.left, each);
 }
 
 #define LINKS(t) t, (size_t)slots
@@ -105,6 +124,11 @@ static void our_check(struct hand h) {
     need(!raimenolta_check((u16)width, (u16)height, FIVE(h.our), WORKS), "the library refuses a drawing");
 }
 
+static void our_turns(struct hand h) {
+    need(!raimenolta_turns((u16)width, (u16)height, FIVE(h.our), LINKS(h.our_turns.right), LINKS(h.our_turns.left), WORKS),
+         "the library refuses a drawing");
+}
+
 static void our_join(struct hand h) {
     need(!raimenolta_join((u16)width, (u16)height, FIVE(h.our), (u16)h.a, (u16)h.b, WORKS), "the library refuses a join");
 }
@@ -113,16 +137,20 @@ static void its_draw(struct hand h) { plain_draw(width, height, h.sheet, h.plain
 
 static void its_check(struct hand h) { need(plain_check(width, height, h.plain), "plain C refuses a drawing"); }
 
+static void its_turns(struct hand h) {
+    need(plain_turns(width, height, h.plain, h.plain_turns.right, h.plain_turns.left), "plain C refuses a drawing");
+}
+
 static void its_join(struct hand h) { need(!plain_join(width, height, h.plain, h.a, h.b), "plain C refuses a join"); }
 
 /* The times of one side for the cells of 72 by 72, in microseconds. */
 struct times {
-    double draw, check, join;
+    double draw, check, turns, join;
 };
 
 /* The least that each job took, in microseconds, of each kind, size, place and sheet, and of both sides. */
 struct least {
-    float draw, check, join;
+    float draw, check, turns, join;
 };
 static struct least our_least[KINDS][SIZES][PLACES][BATCHES][MOST], plain_least[KINDS][SIZES][PLACES][BATCHES][MOST];
 
@@ -163,8 +191,8 @@ static void timed(void (*job)(struct hand), struct hand h, float *least) {
     keep(least, began);
 }
 
-/* The batch at hand: its sheets are drawn, then checked, then in each two regions joined, at a place; each job by one side
- * and then by the other. */
+/* The batch at hand: its sheets are drawn, then checked, their turns counted, then in each two regions joined, at a place; each
+ * job by one side and then by the other. */
 static void run(struct least *our, struct least *plain, int place) {
     static struct hand h[MOST];
     for (int n = 0; n < count; n++) h[n] = take(n);
@@ -176,6 +204,11 @@ static void run(struct least *our, struct least *plain, int place) {
     }
     for (int n = 0; n < count; n++) timed(our_check, h[n], &our[n].check);
     for (int n = 0; n < count; n++) timed(its_check, h[n], &plain[n].check);
+    if (PLAIN_TURNS) {
+        for (int n = 0; n < count; n++) timed(our_turns, h[n], &our[n].turns);
+        for (int n = 0; n < count; n++) timed(its_turns, h[n], &plain[n].turns);
+        for (int n = 0; n < count; n++) need(same_turns(h[n].our_turns, h[n].plain_turns), "the two counts of turns differ");
+    }
     for (int n = 0; n < count; n++) timed(our_join, h[n], &our[n].join);
     for (int n = 0; n < count; n++) timed(its_join, h[n], &plain[n].join);
     for (int n = 0; n < count; n++) need(same(h[n].our, h[n].plain), "the two joins differ");
@@ -245,7 +278,7 @@ static void go_round(int kind, int size) {
 
 /* The mean times. */
 static struct times mean(struct least least[PLACES][BATCHES][MOST], int size) {
-    struct times sum = {0, 0, 0};
+    struct times sum = {0, 0, 0, 0};
     int area = sizes[size].width * sizes[size].height, number = CELLS / area;
     double squares = (double)(PLACES * BATCHES * number) * area / SQUARE;
     for (int k = 0; k < PLACES * BATCHES; k++)
@@ -253,6 +286,7 @@ static struct times mean(struct least least[PLACES][BATCHES][MOST], int size) {
             struct least one = least[k / BATCHES][k % BATCHES][n];
             sum.draw += (double)one.draw / squares;
             sum.check += (double)one.check / squares;
+            sum.turns += (double)one.turns / squares;
             sum.join += (double)one.join / squares;
         }
     return sum;
@@ -334,6 +368,18 @@ static void drawings_table(void) {
     }
 }
 
+/* The turns of the curves, with their check and without. */
+static void turns_table(void) {
+    if (!PLAIN_TURNS) return;
+    printf("\n| sheet, 72 by 72 | turns / plain | without the check / plain | turns / drawing | without the check / drawing "
+           "| cost of a cell against 18 by 18 |\n|---|---|---|---|---|---|\n");
+    for (int kind = 0; kind < KINDS; kind++) {
+        struct times o = our[kind][AT_72], p = plain[kind][AT_72], small = our[kind][AT_18];
+        printf("| %s | %.2f | %.2f | %.2f | %.2f | %.2f |\n", names[kind], o.turns / p.turns,
+               (o.turns - o.check) / (p.turns - p.check), o.turns / o.draw, (o.turns - o.check) / o.draw, o.turns / small.turns);
+    }
+}
+
 static void small_table(void) {
     printf("\n| sheet; join with its check, and without, in drawings | 4 by 4 | 9 by 9 | 18 by 18 | 36 by 36 |\n"
            "|---|---|---|---|---|\n");
@@ -360,10 +406,10 @@ static void growth_table(void) {
 }
 
 static void times_table(void) {
-    printf("\n| sheet, 72 by 72; microseconds, of this machine only | drawing | check | join |\n|---|---|---|---|\n");
+    printf("\n| sheet, 72 by 72; microseconds, of this machine only | drawing | check | turns | join |\n|---|---|---|---|---|\n");
     for (int kind = 0; kind < KINDS; kind++) {
         struct times o = our[kind][AT_72];
-        printf("| %s | %.1f | %.1f | %.1f |\n", names[kind], o.draw, o.check, o.join);
+        printf("| %s | %.1f | %.1f | %.1f | %.1f |\n", names[kind], o.draw, o.check, o.turns, o.join);
     }
 }
 
@@ -381,6 +427,8 @@ static void once(int kind, const char *job) {
     find_pair(&h, slots / 2);
     if (!strcmp(job, "raimenolta_check")) our_check(h);
     if (!strcmp(job, "plain_check")) its_check(h);
+    if (!strcmp(job, "raimenolta_turns")) our_turns(h);
+    if (!strcmp(job, "plain_turns")) its_turns(h);
     if (!strcmp(job, "raimenolta_join")) our_join(h);
     if (!strcmp(job, "plain_join")) its_join(h);
 }
@@ -400,6 +448,7 @@ int main(int words, char **word) {
     plain_table();
     wide_table();
     drawings_table();
+    turns_table();
     small_table();
     targets();
     growth_table();

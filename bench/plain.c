@@ -1,4 +1,4 @@
-/* Drawing, checking and joining in plain C, written for speed and without proof, by the ideas of the proved code.
+/* Drawing, checking, counting turns and joining in plain C, written for speed and without proof, by the ideas of the proved code.
  *
  * Union-find over the cells gives the names, union-find over the points the pieces; of two neighbours one that is absent
  * is stood in for by the other, and roots are searched only where the two entries differ. Lines, sides and next are loops
@@ -213,6 +213,24 @@ int plain_check(int width, int height, struct five five) {
     plain_draw(width, height, read_names, (struct five){next1, side1, next3, other3, parent});
     return !memcmp(five.next1, next1, slots) && !memcmp(five.side1, side1, slots) && !memcmp(five.next3, next3, slots) &&
            !memcmp(five.other3, other3, slots) && !memcmp(five.parent, parent, regions);
+}
+
+/* A run is walked once, for both of its ends: from the other end a right turn is a left turn. How a step turns is told by the
+ * directions before and after it. */
+int plain_turns(int width, int height, struct five five, u16 *restrict right, u16 *restrict left) {
+    int slots = 4 * (width + 1) * (height + 1);
+    if (!plain_check(width, height, five)) return 0;
+    memset(right, 0xff, sizeof(u16) * (unsigned long)slots);
+    memset(left, 0xff, sizeof(u16) * (unsigned long)slots);
+    for (int d = 0; d < slots; d++) {
+        int end = five.next3[d], other = five.other3[d];
+        if (end == MARK || other < d) continue;
+        u16 turns[4] = {0, 0, 0, 0};
+        for (int e = d, f; (f = five.next1[e]) != end; e = f) turns[(f - e) & 3]++;
+        right[d] = left[other] = turns[1];
+        left[d] = right[other] = turns[3];
+    }
+    return 1;
 }
 
 /* The darts of the two regions that are joined, in order, and whether the two share a dart's line. */

@@ -17,6 +17,10 @@ void plain_draw(int width, int height, const uint16_t *sheet, struct five five);
 /* Whether five tables are the drawing of a sheet. */
 int plain_check(int width, int height, struct five five);
 
+/* The right turns and the left turns of the curves of a drawing, whether it is one judged first; 0 where it is none. */
+#define PLAIN_TURNS 1
+int plain_turns(int width, int height, struct five five, uint16_t *right, uint16_t *left);
+
 /* Judges the tables and the names, and joins; the paper's refusal number, 0 for done. */
 int plain_join(int width, int height, struct five five, int a, int b);
 
