@@ -3,7 +3,7 @@
 --   Lent w h s p t  == the sides s and the parents p are those of a drawing, and t is a cleared work table
 --   counts f p      == the table of f at the outside and at the names in use
 use mathlib.Core.Path.{_≡_, sym, ap, _∙_}
-use mathlib.Core.Bool.{Bool, true, cond}
+use mathlib.Core.Bool.{true, cond}
 use mathlib.Core.List.{List, [], _∷_}
 use Prim.Native.Nat.{ℕ, _+_, _*_, _≤_, _<_}
 use native.Mathlib.Omega.{arith}
@@ -12,9 +12,7 @@ use Rattle.laws.proofs.Table.{table-agree}
 use Rattle.sheet_size.specs.Size.{within}
 use Rattle.point_darts.specs.Dart.{mark, slots}
 use Rattle.point_darts.proofs.Fit.{cells-fit}
-use Rattle.point_rules.specs.declared.turn.Turn.{Turn}
 use Rattle.paper.specs.Level.{tops}
-use Rattle.paper.specs.Turns.{curveTurns}
 use Rattle.paper.specs.Enclosure.{holes}
 use Rattle.paper.specs.Drawing.{Tables}
 use Rattle.paper.specs.Joining.{on}
@@ -29,8 +27,7 @@ use Rattle.check_answer.specs.Check.{checked}
 use Rattle.check_answer.proofs.Given.{accepted-within, accepted-stated, accepted-is-drawing, accepted-work}
 use Rattle.count_holes.specs.Round.{pieces}
 use Rattle.count_holes.proofs.Drawn.{is-drawing-holes}
-use Rattle.count_turns.specs.Turns.{turnTable}
-use Rattle.count_turns.proofs.Drawn.{is-drawing-turns}
+use Rattle.count_turns.proofs.Drawn.{Told, is-drawing-turns}
 use Rattle.count_answer.specs.Count.{Countable, Lent}
 
 -- Tables t, a work table b and others cs were given; the work table is now a, the others ds.
@@ -104,7 +101,7 @@ module _ (w h : ℕ) (t : Tables) (b : List ℕ) (cs : List (List ℕ)) (v : Ans
     accepted-curves m n p q =
         (size, stated-slots w h t (b ∷ cs) (accepted-stated w h t (b ∷ cs) v (a ∷ ds) e z) .0, p, q)
 
-    pub accepted-turns : (is : Turn → Bool) → turnTable w h (t .next1) (t .next3) is ≡ curveTurns w h (on (t .side1)) is
+    pub accepted-turns : Told w h t
     accepted-turns = is-drawing-turns w h t size (accepted-is-drawing w h t (b ∷ cs) v (a ∷ ds) e z)
 
   pub countable : Countable v (t .parent)

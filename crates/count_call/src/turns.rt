@@ -60,6 +60,6 @@ pub fn turns(
     if answer.number() != 0 {
         return answer;
     }
-    turns::all_turns(width, height, next1, next3, right, left);
+    turns::all_turns(width, height, next1, next3, other3, right, left);
     Answer::Done
 }

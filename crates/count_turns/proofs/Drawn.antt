@@ -1,7 +1,9 @@
--- In a drawing the turns up to the next of level 3 are those of the paper, inside the run to the next kept point.
+-- In a drawing the turns up to the next of level 3 are those of the paper, inside the run to the next kept point; and so are, with
+-- the hands exchanged, those from the other end of the run.
 --   turnsTo n x e is d == how many turns that pass the test is are taken from dart d on, before x leads to the dart e
 --   turns w h on keep is d == how many the run from d to the next point that passes keep takes inside
 --   Ahead z         == dart z is on, and the run from d goes through it
+--   Told w h t      == the turns counted from the tables t are those of the curves of their sides
 use mathlib.Core.Path.{_≡_, refl, sym, ap, _∙_, fun-ext}
 use mathlib.Core.Bool.{Bool, true, false, cond}
 use mathlib.Core.List.{List}
@@ -16,9 +18,9 @@ use Rattle.laws.proofs.Steps.{Steps, run-steps, steps-agree, count-is}
 use Rattle.sheet_size.specs.Size.{within}
 use Rattle.point_darts.specs.Dart.{mark, slots, point, direction, far}
 use Rattle.point_rules.specs.declared.turn.Turn.{Turn}
-use Rattle.point_rules.specs.Turn.{turning}
+use Rattle.point_rules.specs.Turn.{turning, isRight, isLeft}
 use Rattle.paper.specs.Name.{names}
-use Rattle.paper.specs.Level.{side, border, mask, next, last, plain, along, kept3, among, level, marked}
+use Rattle.paper.specs.Level.{Level, side, border, mask, next, last, plain, along, kept3, among, level, marked}
 use Rattle.paper.specs.Turns.{taken, turns, curveTurns}
 use Rattle.paper.specs.Drawing.{Tables, drawn, drawing, isDrawing}
 use Rattle.paper.specs.Joining.{at, on}
@@ -26,10 +28,11 @@ use Rattle.paper_laws.proofs.Next.{Lines, point-next}
 use Rattle.paper_laws.proofs.Sheet.{border-lines}
 use Rattle.paper_laws.proofs.Marks.{within-fits, at-held, on-marked, marked-agree, next-stays, along-on}
 use Rattle.paper_laws.proofs.Marks.{lines-inside, next-small, along-next-small}
-use Rattle.paper_laws.proofs.Along.{Kept, kept3-kept, run-on, run-ends, run-led}
+use Rattle.paper_laws.proofs.Along.{Kept, kept3-kept, run-on, run-ends, run-led, along-chart, other-stays}
 use Rattle.paper_laws.proofs.Drawn.{sides-on}
+use Rattle.paper_laws.proofs.Turns.{turns-other}
 use Rattle.paper_laws.proofs.IsDrawing.{is-drawing-drawn}
-use Rattle.count_turns.specs.Turns.{takenBy, turnsTo, turnsAt, turnTable}
+use Rattle.count_turns.specs.Turns.{takenBy, turnsTo, walked, met, turnsAt, turnTable}
 
 module _ (w h : ℕ) (n : List ℕ) (room : slots w h ≤ mark) where
   b : ℕ → Bool
@@ -109,47 +112,81 @@ module _ (w h : ℕ) (n : List ℕ) (room : slots w h ≤ mark) where
         count-is p (omega arith) ∙ sym (count-is q (omega arith))
 
   -- The darts of level 3.
-  module _ (is : Turn → Bool) where
-    keep : ℕ → Bool
-    keep = among (kept3 w h b)
+  keep : ℕ → Bool
+  keep = among (kept3 w h b)
 
-    y : List ℕ
-    y = marked w h (along w h b keep .on) (along w h b keep .next)
+  curves : Level
+  curves = along w h b keep
 
-    curve-below : (d : ℕ) → along w h b keep .on d ≡ true → d < slots w h
-    curve-below d e = lines-inside w h b lines d (along-on w h b lines keep d e)
+  kept : Kept w h n keep
+  unfolding keep b
+  kept = kept3-kept w h n
 
-    on-y : (d : ℕ) → on y d ≡ along w h b keep .on d
-    unfolding y
-    on-y = on-marked w h (along w h b keep .on) (along w h b keep .next) curve-below (along-next-small w h b lines room keep)
+  curve-line : (d : ℕ) → curves .on d ≡ true → b d ≡ true
+  unfolding curves
+  curve-line = along-on w h b lines keep
 
-    at-y : (d : ℕ) → along w h b keep .on d ≡ true → at y d ≡ along w h b keep .next d
-    unfolding y
-    at-y = at-held w h (along w h b keep .on) (along w h b keep .next) curve-below
+  curve-below : (d : ℕ) → curves .on d ≡ true → d < slots w h
+  curve-below d e = lines-inside w h b lines d (curve-line d e)
 
-    kept : Kept w h n keep
-    unfolding keep b
-    kept = kept3-kept w h n
+  y : List ℕ
+  y = marked w h (curves .on) (curves .next)
 
-    curve-turns : (d : ℕ) → along w h b keep .on d ≡ true → turnsTo (slots w h) x (at y d) is d ≡ turns w h b keep is d
-    unfolding along end
-    curve-turns d e =
-        rw (at-y d e) (turns-drawn keep kept is d (along-on w h b lines keep d e))
+  o : List ℕ
+  o = marked w h (curves .on) (curves .other)
 
-    table-drawn : turnTable w h x y is ≡ curveTurns w h b is
-    unfolding turnTable turnsAt curveTurns keep marked
+  on-y : (d : ℕ) → on y d ≡ curves .on d
+  unfolding y curves
+  on-y = on-marked w h (curves .on) (curves .next) curve-below (along-next-small w h b lines room keep)
+
+  at-y : (d : ℕ) → curves .on d ≡ true → at y d ≡ curves .next d
+  unfolding y
+  at-y = at-held w h (curves .on) (curves .next) curve-below
+
+  at-o : (d : ℕ) → curves .on d ≡ true → at o d ≡ curves .other d
+  unfolding o
+  at-o = at-held w h (curves .on) (curves .other) curve-below
+
+  other-on : (d : ℕ) → curves .on d ≡ true → curves .on (curves .other d) ≡ true
+  unfolding curves b
+  other-on = other-stays w h n curves (along-chart w h n keep kept)
+
+  walked-drawn : (is : Turn → Bool) (d : ℕ) → curves .on d ≡ true → walked (slots w h) x y is d ≡ turns w h b keep is d
+  unfolding walked curves along end
+  walked-drawn is d e = rw (on-y d ∙ e, at-y d e) (turns-drawn keep kept is d (curve-line d e))
+
+  -- turns that pass one test are those that pass another on the way back
+  module _ (is was : Turn → Bool)
+      (back : (d : ℕ) → curves .on d ≡ true → turns w h b keep was (curves .other d) ≡ turns w h b keep is d) where
+    by-end : (d : ℕ) → curves .on d ≡ true → (m : Bool)
+        → cond m (walked (slots w h) x y was (at o d)) (walked (slots w h) x y is d) ≡ turns w h b keep is d
+    by-end d e true =
+        ap (walked (slots w h) x y was) (at-o d e) ∙ walked-drawn was (curves .other d) (other-on d e) ∙ back d e
+    by-end d e false = walked-drawn is d e
+
+    table-drawn : turnTable w h x y o is was ≡ curveTurns w h b is
+    unfolding turnTable turnsAt curveTurns keep curves marked
     table-drawn =
-        marked-agree w h (on y) (along w h b keep .on) (λ d. turnsTo (slots w h) x (at y d) is d) (turns w h b keep is) on-y
-        (λ d e. curve-turns d (sym (on-y d) ∙ e))
+        marked-agree w h (on y) (curves .on)
+        (λ d. cond (met o d) (walked (slots w h) x y was (at o d)) (walked (slots w h) x y is d)) (turns w h b keep is) on-y
+        (λ d e. by-end d (sym (on-y d) ∙ e) (met o d))
 
 -- Tables that are a drawing.
-drawing-turns : (w h : ℕ) (s : List ℕ) → slots w h ≤ mark → (is : Turn → Bool)
-    → turnTable w h (drawing w h s .next1) (drawing w h s .next3) is ≡ curveTurns w h (on (drawing w h s .side1)) is
-unfolding drawing drawn level plain b x y keep
-drawing-turns w h s room is = rw (sides-on w h s room) (table-drawn w h (names w h s) room is)
+abbrev pub Told : ℕ → ℕ → Tables → Type 0
+Told w h t =
+    (turnTable w h (t .next1) (t .next3) (t .other3) isRight isLeft ≡ curveTurns w h (on (t .side1)) isRight)
+    × (turnTable w h (t .next1) (t .next3) (t .other3) isLeft isRight ≡ curveTurns w h (on (t .side1)) isLeft)
 
-pub is-drawing-turns : (w h : ℕ) (t : Tables) → within w h ≡ true → isDrawing w h t ≡ true → (is : Turn → Bool)
-    → turnTable w h (t .next1) (t .next3) is ≡ curveTurns w h (on (t .side1)) is
-is-drawing-turns w h t e j is =
+drawing-turns : (w h : ℕ) (s : List ℕ) → slots w h ≤ mark → Told w h (drawing w h s)
+unfolding drawing drawn level plain b x y o keep curves
+drawing-turns w h s room =
+    let n = names w h s in
+    rw (sides-on w h s room) (
+      table-drawn w h n room isRight isLeft (λ d e. turns-other w h n d e .0),
+      table-drawn w h n room isLeft isRight (λ d e. turns-other w h n d e .1),
+    )
+
+pub is-drawing-turns : (w h : ℕ) (t : Tables) → within w h ≡ true → isDrawing w h t ≡ true → Told w h t
+is-drawing-turns w h t e j =
     let d = is-drawing-drawn w h t j in
-    rw (← d .same) (drawing-turns w h (d .labels) (within-fits w h e) is)
+    rw (← d .same) (drawing-turns w h (d .labels) (within-fits w h e))

@@ -4,17 +4,17 @@
 --   Going n x e s i r l d a == of the turns from dart s on, n steps far, r to the right and l to the left are counted; the rest
 --                      are those from dart d on, i steps far, and a is next of d
 use mathlib.Core.Path.{_≡_, refl, sym, ap, _∙_}
-use mathlib.Core.Bool.{Bool, true, false}
+use mathlib.Core.Bool.{Bool, true, false, cond}
 use mathlib.Core.List.{List}
 use mathlib.Core.Logic.{_≢_}
 use Prim.Native.Nat.{ℕ, suc, _+_, _-_, _≤_, _<_, zero-le}
 use native.Mathlib.Omega.{arith}
-use lib.Dec.{eqb, lit<}
-use lib.ListN.{length}
-use borrow.Author.Tests.{lt-ltb, eq-eqb, ne-eqb}
+use lib.Dec.{eqb, ltb}
+use lib.ListN.{length, getD}
+use borrow.Author.Tests.{lt-ltb, le-ltb, ltb-true, eqb-true, eq-eqb, ne-eqb}
 use Rattle.laws.specs.Table.{number}
 use Rattle.laws.specs.Run.{countTo}
-use Rattle.laws.proofs.Count.{number-below}
+use Rattle.laws.proofs.Test.{and-left, and-right}
 use Rattle.laws.proofs.Steps.{count-stop, count-go, count-most}
 use Rattle.sheet_size.specs.Size.{within}
 use Rattle.point_darts.specs.Dart.{mark, points, slots, dart, point, direction}
@@ -27,7 +27,7 @@ use Rattle.paper.specs.Joining.{at, on}
 use Rattle.paper_laws.proofs.Next.{mask-below}
 use Rattle.paper_laws.proofs.Marks.{within-fits}
 use Rattle.table_entries.proofs.Entries.{at-end, on-mark, on-entry}
-use Rattle.count_turns.specs.Turns.{whole, takenBy, turnsTo, turnsAt}
+use Rattle.count_turns.specs.Turns.{whole, takenBy, turnsTo, walked, met, turnsAt, Counted}
 
 -- no line is present past the end of a table
 pub mask-past : (t : List ℕ) (p : ℕ) → length t ≤ dart p 0 → 0 ≡ mask (on t) p
@@ -107,15 +107,66 @@ module _ (n : ℕ) (x : List ℕ) (e s : ℕ) where
           → Going n x e s (i - 1) (r + j) (l + k) a b
       going-more j k b t u p = record { right = right-on j t; left = left-on k u; after = p }
 
--- Up to the next that a table y has.
-module _ (n : ℕ) (x y : List ℕ) (is : Turn → Bool) (d a : ℕ) (e : a ≡ at y d) where
-  pub turns-off : a ≡ mark → mark ≡ turnsAt n x y is d
+-- Whether the other of a dart is met before it.
+module _ (o : List ℕ) (d f : ℕ) (e : f ≡ at o d) where
+  pub met-before : f < d → (g : ℕ) → g ≡ at o f → eqb g d ≡ met o d
+  unfolding met
+  met-before b g q = rw (← e, lt-ltb f d b, q)
+
+  pub met-after : d ≤ f → false ≡ met o d
+  unfolding met
+  met-after b = rw (← e, le-ltb f d b)
+
+module _ (o : List ℕ) (d : ℕ) (m : met o d ≡ true) where
+  pub met-below : at o d < d
+  unfolding met
+  met-below = ltb-true _ _ (and-left (ltb (at o d) d) _ m)
+
+  -- the other of a dart that was met does not meet it
+  met-once : met o (at o d) ≡ false
+  unfolding met
+  met-once =
+      let back : at o (at o d) ≡ d = eqb-true _ _ (and-right (ltb (at o d) d) (eqb (at o (at o d)) d) m) in
+      rw (back, le-ltb d (at o d) (omega (arith, met-below)))
+
+-- a choice made twice
+twice : (b : Bool) (v w : ℕ) → cond b (cond b v w) w ≡ cond b v w
+twice true v w = refl
+twice false v w = refl
+
+-- Up to the next that a table y has, or from the other end.
+module _ (n : ℕ) (x y o : List ℕ) (is was : Turn → Bool) (d a : ℕ) (e : a ≡ at y d) where
+  pub turns-off : a ≡ mark → mark ≡ turnsAt n x y o is was d
   unfolding turnsAt
   turns-off z = rw (on-mark y d (sym e ∙ z))
 
-  pub turns-on : a ≢ mark → (v : ℕ) → v ≡ turnsTo n x a is d → v ≡ turnsAt n x y is d
-  unfolding turnsAt
-  turns-on z v q = q ∙ rw (on-entry y d (λ f. z (e ∙ f)), e)
+  module _ (z : a ≢ mark) where
+    here : on y d ≡ true
+    here = on-entry y d (λ f. z (e ∙ f))
+
+    pub turns-walked : met o d ≡ false → (v : ℕ) → v ≡ turnsTo n x a is d → v ≡ turnsAt n x y o is was d
+    unfolding turnsAt walked
+    turns-walked m v q = q ∙ rw (here, m, e)
+
+    pub turns-met : met o d ≡ true → (v : ℕ) → v ≡ turnsAt n x y o was is (at o d) → v ≡ turnsAt n x y o is was d
+    unfolding turnsAt walked
+    turns-met m v q = q ∙ rw (here, m, met-once o d m) (twice (on y (at o d)) _ mark)
+
+-- The entries of the other of a dart that was met.
+module _ {n : ℕ} {x y o : List ℕ} {d : ℕ} {r l : List ℕ} (c : Counted n x y o d r l) (f : ℕ) (e : f ≡ at o d)
+    (m : met o d ≡ true) where
+  pub other-below : (f < length r) × (f < length l)
+  other-below =
+      let b : f < d = rw e (met-below o d m) in
+      (omega (arith, c .below, c .rights), omega (arith, c .below, c .lefts))
+
+  pub counted-met : (a : ℕ) → a ≡ at y d → a ≢ mark
+      → (getD l f 0 ≡ turnsAt n x y o isRight isLeft d) × (getD r f 0 ≡ turnsAt n x y o isLeft isRight d)
+  counted-met a p z =
+      let b : f < d = rw e (met-below o d m) in (
+        turns-met n x y o isRight isLeft d a p z m _ (c .left f b ∙ ap (turnsAt n x y o isLeft isRight) e),
+        turns-met n x y o isLeft isRight d a p z m _ (c .right f b ∙ ap (turnsAt n x y o isRight isLeft) e),
+      )
 
 -- a table by dart has four entries for each point
 pub whole-slots : (w h : ℕ) (x : List ℕ) → within w h ≡ true → length x ≡ slots w h → whole x

@@ -14,8 +14,8 @@ ghost use Rattle.sheet_size.specs.Size.{within};
 ghost use Rattle.point_darts.specs.Dart.{slots, point, direction};
 ghost use Rattle.point_rules.specs.Turn.{turning, isRight, isLeft};
 ghost use Rattle.paper.specs.Level.{mask};
-ghost use Rattle.paper.specs.Joining.{on};
-ghost use Rattle.count_turns.specs.Turns.{whole, turnsTo, turnsAt, turnTable};
+ghost use Rattle.paper.specs.Joining.{at, on};
+ghost use Rattle.count_turns.specs.Turns.{whole, turnsTo, met, turnsAt, turnTable, Counted};
 
 // How many right turns and left turns a run takes.
 struct Turns {
@@ -83,12 +83,32 @@ fn run(steps: u16, next: &[u16], start: u16, end: u16) -> Turns
     Turns { right, left }
 }
 
-// The turns of a dart up to its next of level 3, at most so many steps; the mark twice where it has none.
-fn turns_at(steps: u16, next1: &[u16], next3: &[u16], d: u16) -> Turns
-    requires { ⌜ whole (now next1) ⌝ }
+// Whether the other of a dart comes before it, and the dart is the other of that.
+fn is_met(other3: &[u16], other: u16, d: u16) -> bool
+    requires { ⌜ other ≡ at (now other3) d ⌝ }
+    ensures { λ r. ⌜ r ≡ met (now (other3 .entry)) d ⌝ }
+{
+    if other < d {
+        return entry::get(other3, other) == d;
+    }
+    false
+}
+
+// The turns of a dart, where those of the darts before it are counted: those of its run to its next of level 3, at most so many
+// steps, or those of the run back, exchanged, where its other was met. The mark twice where it has no next of level 3.
+fn turns_at(
+    steps: u16,
+    next1: &[u16],
+    next3: &[u16],
+    other3: &[u16],
+    right: &[u16],
+    left: &[u16],
+    d: u16,
+) -> Turns
+    requires { ⌜ Counted steps (now next1) (now next3) (now other3) d (now right) (now left) ⌝ }
     ensures { λ r. ⌜
-        (r .right ≡ turnsAt steps (now (next1 .entry)) (now (next3 .entry)) isRight d) ×
-        (r .left ≡ turnsAt steps (now (next1 .entry)) (now (next3 .entry)) isLeft d)
+        (r .right ≡ turnsAt steps (now (next1 .entry)) (now (next3 .entry)) (now (other3 .entry)) isRight isLeft d) ×
+        (r .left ≡ turnsAt steps (now (next1 .entry)) (now (next3 .entry)) (now (other3 .entry)) isLeft isRight d)
         ⌝ }
 {
     let end = entry::get(next3, d);
@@ -98,16 +118,24 @@ fn turns_at(steps: u16, next1: &[u16], next3: &[u16], d: u16) -> Turns
             left: dart::MARK,
         };
     }
+    let other = entry::get(other3, d);
+    if is_met(other3, other, d) {
+        return Turns {
+            right: left[other as usize],
+            left: right[other as usize],
+        };
+    }
     run(steps, next1, d, end)
 }
 
-// The right turns and the left turns of every dart of level 3; the mark at every other slot. Each line is passed once by one run
-// and once by the run back, so the work grows with the lines.
+// The right turns and the left turns of every dart of level 3; the mark at every other slot. A run is gone once, from the end
+// that is met first, so every line is passed once.
 pub fn all_turns(
     width: u16,
     height: u16,
     next1: &[u16],
     next3: &[u16],
+    other3: &[u16],
     right: &mut [u16],
     left: &mut [u16],
 )
@@ -116,14 +144,16 @@ pub fn all_turns(
         (length (now right) ≡ slots width height) × (length (now left) ≡ slots width height)
         ⌝ }
     ensures { λ _. ⌜
-        (now (right .exit) ≡ turnTable width height (now (next1 .entry)) (now (next3 .entry)) isRight) ×
-        (now (left .exit) ≡ turnTable width height (now (next1 .entry)) (now (next3 .entry)) isLeft)
+        (now (right .exit) ≡
+        turnTable width height (now (next1 .entry)) (now (next3 .entry)) (now (other3 .entry)) isRight isLeft) ×
+        (now (left .exit) ≡
+        turnTable width height (now (next1 .entry)) (now (next3 .entry)) (now (other3 .entry)) isLeft isRight)
         ⌝ }
 {
     let n = dart::slots(width, height);
     let mut d: u16 = 0;
     while d < n {
-        let turns = turns_at(n, next1, next3, d);
+        let turns = turns_at(n, next1, next3, other3, right, left, d);
         right[d as usize] = turns.right;
         left[d as usize] = turns.left;
         d += 1;

@@ -148,15 +148,16 @@ fn turn(width: u16, height: u16, tables: Tables) -> Turned
     let slots = slots_of(width, height);
     let next1 = tables.next1;
     let next3 = tables.next3;
+    let other3 = tables.other3;
     let lines: &[u16] = &next1;
-    let curves: &[u16] = &next3;
     let mut right = [0u16; SLOTS];
     let mut left = [0u16; SLOTS];
     turns::all_turns(
         width,
         height,
         &lines[..slots],
-        &curves[..slots],
+        front(&next3, slots),
+        front(&other3, slots),
         &mut right[..slots],
         &mut left[..slots],
     );

@@ -87,10 +87,10 @@ all-turns-requires c κs =
     accepted-curves _ _ _ _ _ _ _ _ (k .check .ensures) (checked-done e) _ _ (l .0) (l .1 .0)
 
 same-length-5 : tie.Need-same-length-5
-same-length-5 c = end c .all-turns .kept .1 .1 .1 .1 .0
+same-length-5 c = end c .all-turns .kept .1 .1 .1 .1 .1 .0
 
 same-length-6 : tie.Need-same-length-6
-same-length-6 c = end c .all-turns .kept .1 .1 .1 .1 .1 .0
+same-length-6 c = end c .all-turns .kept .1 .1 .1 .1 .1 .1 .0
 
 same-length-7 : tie.Need-same-length-7
 same-length-7 c = asked (done (end c)) .check .kept .1 .1 .1 .1 .1 .1 .1 .0
@@ -113,7 +113,7 @@ returns-3 c =
     let z = checked-done e in
     let t = accepted-turns _ _ _ _ _ _ _ _ (k .check .ensures) z in
     fill-done _ _ _ _ _ _ _ _ _ (dart-lengths _ _ _) _ (sized k .before .refusal .ensures) (sized-done e) _ _ (k .check .ensures) z _ _
-    (both-same (f .all-turns .ensures .0 ∙ t _) (f .all-turns .ensures .1 ∙ t _)) refl
+    (both-same (f .all-turns .ensures .0 ∙ t .0) (f .all-turns .ensures .1 ∙ t .1)) refl
 
 pub turns-spec : {M : Type 1} → statement M
 turns-spec =

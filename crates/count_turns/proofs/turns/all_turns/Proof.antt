@@ -10,27 +10,31 @@ use Rattle.count_turns.proofs.turns.all_turns.Statement.{statement}
 use Rattle.count_turns.proofs.turns.all_turns.Tie as tie
 
 abbrev Inv-loop : tie.InvT-loop
-Inv-loop width height next1 next3 right₀ left₀ n d₀ right left d =
-    Filled n (turnsAt n next1 next3 isRight) d right₀ right × Filled n (turnsAt n next1 next3 isLeft) d left₀ left
+Inv-loop width height next1 next3 other3 right₀ left₀ n d₀ right left d =
+    Filled n (turnsAt n next1 next3 other3 isRight isLeft) d right₀ right
+    × Filled n (turnsAt n next1 next3 other3 isLeft isRight) d left₀ left
 
 abbrev μ-loop : tie.MeasureT-loop
-μ-loop width height next1 next3 right₀ left₀ n d₀ right left d = n - d
+μ-loop width height next1 next3 other3 right₀ left₀ n d₀ right left d = n - d
 
--- From the count of the slots back to the start; from a round of the loop back to that count.
+-- From the count of the slots back to the start; from the turns of a dart back to the test of the loop, and to its round.
 abbrev start : tie.After-slots Inv-loop μ-loop → tie.Start Inv-loop μ-loop
-start c = c .before .before .before .before .before
+start c = c .before .before .before .before .before .before
 
-abbrev counted : tie.After-turns-at Inv-loop μ-loop → tie.After-slots Inv-loop μ-loop
-counted c = c .before .before .before
+abbrev tested : tie.After-turns-at Inv-loop μ-loop → tie.In-loop Inv-loop μ-loop
+tested c = c .before .before .before
+
+abbrev round : tie.After-turns-at Inv-loop μ-loop → tie.At-loop Inv-loop μ-loop
+round c = tested c .before
 
 -- The dart at hand has a number that fits.
-small : (c : tie.After-turns-at Inv-loop μ-loop) → c .before .before .loop .d < 32412
+small : (c : tie.After-turns-at Inv-loop μ-loop) → round c .loop .d < 32412
 small c =
-    let k = counted c in
-    omega (arith, c .before .loop-test .taken, k .slots .ensures, slots-most _ _ (start k .pre .0))
+    let k = round c .before in
+    omega (arith, tested c .loop-test .taken, k .slots .ensures, slots-most _ _ (start k .pre .0))
 
 slots-requires : tie.Need-slots-requires Inv-loop μ-loop
-slots-requires c κs = c .before .before .before .before .pre .0
+slots-requires c κs = c .before .before .before .before .before .pre .0
 
 loop-holds : tie.Need-loop-holds Inv-loop μ-loop
 loop-holds c =
@@ -40,8 +44,17 @@ loop-holds c =
 
 turns-at-requires : tie.Need-turns-at-requires Inv-loop μ-loop
 turns-at-requires c κs =
-    let s = start (c .before .before) in
-    whole-slots _ _ (s .args .next1 .now) (s .pre .0) (s .pre .1)
+    let t = c .before .before in
+    let s = start (t .before .before) in
+    let (r, l) = t .before .loop .inv in
+    record {
+      lines = whole-slots _ _ (s .args .next1 .now) (s .pre .0) (s .pre .1);
+      below = t .loop-test .taken;
+      rights = r .long;
+      lefts = l .long;
+      right = r .done;
+      left = l .done;
+    }
 
 cast-right : tie.Need-cast-right Inv-loop μ-loop
 cast-right c = omega (arith, small c)
@@ -50,7 +63,7 @@ mul-right : tie.Need-mul-right Inv-loop μ-loop
 mul-right c = omega (arith, small c)
 
 slice-write-right : tie.Need-slice-write-right Inv-loop μ-loop
-slice-write-right c = omega (arith, c .before .before .loop .inv .0 .long)
+slice-write-right c = omega (arith, round c .loop .inv .0 .long)
 
 cast-left : tie.Need-cast-left Inv-loop μ-loop
 cast-left c = omega (arith, small c)
@@ -59,7 +72,7 @@ mul-left : tie.Need-mul-left Inv-loop μ-loop
 mul-left c = omega (arith, small c)
 
 slice-write-left : tie.Need-slice-write-left Inv-loop μ-loop
-slice-write-left c = omega (arith, c .before .before .loop .inv .1 .long)
+slice-write-left c = omega (arith, round c .loop .inv .1 .long)
 
 add-d : tie.Need-add-d Inv-loop μ-loop
 add-d c = omega (arith, small c)
@@ -69,8 +82,8 @@ loop-less c = omega arith
 
 loop-again : tie.Need-loop-again Inv-loop μ-loop
 loop-again c =
-    let i = c .before .before .loop .inv in
-    let t = c .before .loop-test .taken in (
+    let i = round c .loop .inv in
+    let t = tested c .loop-test .taken in (
       filled-more _ _ _ _ _ (i .0) _ t (c .turns-at .ensures .0),
       filled-more _ _ _ _ _ (i .1) _ t (c .turns-at .ensures .1),
     )
