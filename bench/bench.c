@@ -1,7 +1,8 @@
 /* The library's speed as ratios to plain C (plain.c), both compiled for this machine and measured in one run.
  *
- * A batch of sheets is drawn, then checked, its turns counted, then joined, each by one side and then by the other, on buffers that are warm,
- * in several rounds. Of each sheet, place and job the least of the rounds counts, and the times of all sheets are added.
+ * A batch of sheets is drawn, then checked, its turns counted, then joined, each by one side and then by the other, on buffers
+ * that are warm, in several rounds. Of each sheet, place and job the least of the rounds counts, and the times of all sheets are
+ * added.
  * Random sheets are so many that the machine cannot learn which way the branches go, neither from one round to the next
  * nor from a sheet's drawing to its check. The answers of both sides are compared. Prints tables in Markdown. */
 

@@ -8,6 +8,7 @@ use case_tables::tables::Works;
 use check_call::check;
 use count_answer::Count;
 use count_call::count;
+use count_call::turns;
 use point_darts::dart;
 ghost use Prim.Native.Nat.{_≤_};
 ghost use Rattle.case_sheets.specs.Room.{room, Fits};
@@ -18,11 +19,11 @@ pub struct Checked {
     pub works: Works,
 }
 
-// What the counts of all names answered: the number, and the tables after it.
-pub struct Tallied {
+// What a call that fills two tables answered: the number, and the tables after it.
+pub struct Filled {
     pub number: u16,
-    pub depths: [u16; lent::ROOM],
-    pub holes: [u16; lent::ROOM],
+    pub first: [u16; lent::ROOM],
+    pub second: [u16; lent::ROOM],
     pub works: Works,
 }
 
@@ -86,31 +87,31 @@ pub(crate) fn check(size: Size, lengths: Lengths, tables: Tables)
     show_end(checked.number, lengths, works);
 }
 
-// Writes name, depth and hole count of each name that has them.
-fn show_each(depths: &[u16], holes: &[u16]) {
+// Writes each name, or dart, with its entries of two tables, where it has them.
+fn show_each(first: &[u16], second: &[u16]) {
     let mut i = 0;
-    while i < depths.len() {
-        if i < holes.len() {
-            show_one((i % 65536) as u16, depths[i], holes[i]);
+    while i < first.len() {
+        if i < second.len() {
+            show_one((i % 65536) as u16, first[i], second[i]);
         }
         i += 1;
     }
 }
 
-// Writes name, depth and hole count, where they are not the mark.
-fn show_one(name: u16, depth: u16, holes: u16) {
-    if depth == dart::MARK {
-        if holes == dart::MARK {
+// Writes a name, or a dart, and its two entries, where they are not the mark.
+fn show_one(place: u16, first: u16, second: u16) {
+    if first == dart::MARK {
+        if second == dart::MARK {
             return;
         }
     }
-    show::label(name);
-    show::label(depth);
-    show::label(holes);
+    show::label(place);
+    show::label(first);
+    show::label(second);
 }
 
 // Counts all names of tables of these lengths into two tables of a length each, with work tables that are not clear.
-fn counts_of(size: Size, m: usize, h: usize, lengths: Lengths, tables: Tables) -> Tallied
+fn counts_of(size: Size, m: usize, h: usize, lengths: Lengths, tables: Tables) -> Filled
     requires { ⌜ Fits lengths × (m ≤ room) × (h ≤ room) ⌝ }
 {
     let ka = lengths.a;
@@ -143,42 +144,97 @@ fn counts_of(size: Size, m: usize, h: usize, lengths: Lengths, tables: Tables) -
         &mut c[..kc],
         &mut d[..kd],
     );
-    Tallied {
+    Filled {
         number: answer.number(),
-        depths,
-        holes,
+        first: depths,
+        second: holes,
         works: Works { a, b, c, d },
     }
 }
 
-// Depth and hole count of all names, each in full or by the sums of the two tables; of a refusal, whether the two are as
-// they were.
-fn show_tally(m: usize, h: usize, full: bool, tallied: Tallied) {
-    if tallied.number != 0 {
-        show::kept(tables::untouched(&tallied.depths));
-        show::kept(tables::untouched(&tallied.holes));
+// Two tables that were filled, in full or by their sums; of a refusal, whether the two are as they were.
+fn show_filled(m: usize, h: usize, full: bool, filled: Filled) {
+    if filled.number != 0 {
+        show::kept(tables::untouched(&filled.first));
+        show::kept(tables::untouched(&filled.second));
         return;
     }
-    let depths = tallied.depths;
-    let holes = tallied.holes;
+    let first = filled.first;
+    let second = filled.second;
     if full {
-        show_each(tables::front(&depths, m), tables::front(&holes, h));
+        show_each(tables::front(&first, m), tables::front(&second, h));
         return;
     }
-    show::table(tables::front(&depths, m), false);
-    show::table(tables::front(&holes, h), false);
+    show::table(tables::front(&first, m), false);
+    show::table(tables::front(&second, h), false);
 }
 
 // What the counts of all names answer, in two tables of a length each.
 pub(crate) fn counts(size: Size, full: bool, m: usize, h: usize, lengths: Lengths, tables: Tables)
     requires { ⌜ Fits lengths × (m ≤ room) × (h ≤ room) ⌝ }
 {
-    let tallied = counts_of(size, m, h, lengths, tables);
-    let works = tallied.works;
+    let filled = counts_of(size, m, h, lengths, tables);
+    let works = filled.works;
     show::text(b"counts");
-    show::label(tallied.number);
-    show_tally(m, h, full, tallied);
-    show_end(tallied.number, lengths, works);
+    show::label(filled.number);
+    show_filled(m, h, full, filled);
+    show_end(filled.number, lengths, works);
+}
+
+// Counts the turns of the curves of tables of these lengths, into two tables as long as that of level 1 next, with work tables
+// that are not clear.
+fn turns_of(size: Size, lengths: Lengths, tables: Tables) -> Filled
+    requires { ⌜ Fits lengths ⌝ }
+{
+    let n = lengths.next1;
+    let ka = lengths.a;
+    let kb = lengths.b;
+    let kc = lengths.c;
+    let kd = lengths.d;
+    let next1 = tables.next1;
+    let side1 = tables.side1;
+    let next3 = tables.next3;
+    let other3 = tables.other3;
+    let parent = tables.parent;
+    let mut right = [lent::UNTOUCHED; lent::ROOM];
+    let mut left = [lent::UNTOUCHED; lent::ROOM];
+    let mut a = [lent::UNTOUCHED; lent::ROOM];
+    let mut b = [lent::UNTOUCHED; lent::ROOM];
+    let mut c = [lent::UNTOUCHED; lent::ROOM];
+    let mut d = [lent::UNTOUCHED; lent::ROOM];
+    let answer = turns::turns(
+        size.width,
+        size.height,
+        tables::front(&next1, n),
+        tables::front(&side1, lengths.side1),
+        tables::front(&next3, lengths.next3),
+        tables::front(&other3, lengths.other3),
+        tables::front(&parent, lengths.parent),
+        &mut right[..n],
+        &mut left[..n],
+        &mut a[..ka],
+        &mut b[..kb],
+        &mut c[..kc],
+        &mut d[..kd],
+    );
+    Filled {
+        number: answer.number(),
+        first: right,
+        second: left,
+        works: Works { a, b, c, d },
+    }
+}
+
+// What the turns of the curves answer: each dart of level 3 with its right turns and its left turns.
+pub(crate) fn turns(size: Size, lengths: Lengths, tables: Tables)
+    requires { ⌜ Fits lengths ⌝ }
+{
+    let filled = turns_of(size, lengths, tables);
+    let works = filled.works;
+    show::text(b"turns");
+    show::label(filled.number);
+    show_filled(lengths.next1, lengths.next1, true, filled);
+    show_end(filled.number, lengths, works);
 }
 
 // The count of an answer, the mark for a refusal.

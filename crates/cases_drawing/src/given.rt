@@ -30,6 +30,7 @@ pub(crate) fn run(size: Size, name: u16, list: &[u16]) {
     let tables = tables::given(list, lent::from(list, 11));
     asked::check(size, lengths, tables);
     asked::counts(size, true, depths, holes, lengths, tables);
+    asked::turns(size, lengths, tables);
     asked::depth(size, name, lengths, tables);
     asked::holes(size, name, lengths, tables);
 }

@@ -39,13 +39,15 @@ fn show_drawn(full: bool, lengths: Lengths, drawn: Answered) {
     show::line_end();
 }
 
-// What is asked of a drawing that was made: the counts of all names, and of each name where it is written in full.
+// What is asked of a drawing that was made: the counts of all names, and, where it is written in full, of each name, and the turns
+// of the curves.
 fn ask(size: Size, full: bool, lengths: Lengths, tables: Tables)
     requires { ⌜ Fits lengths ⌝ }
 {
     asked::counts(size, full, lengths.parent, lengths.parent, lengths, tables);
     if full {
         asked::names(size, lengths, tables);
+        asked::turns(size, lengths, tables);
     }
 }
 

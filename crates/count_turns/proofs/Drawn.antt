@@ -11,16 +11,15 @@ use Prim.Native.Nat.{ℕ, _≤_, _<_}
 use native.Mathlib.Omega.{arith}
 use lib.Dec.{eqb}
 use borrow.Author.Tests.{eq-eqb, ne-eqb}
-use Rattle.laws.proofs.Table.{table-agree}
 use Rattle.laws.proofs.Test.{clash}
 use Rattle.laws.proofs.Walk.{Run, run-tail, run-ended}
-use Rattle.laws.proofs.Steps.{Steps, run-steps, steps-agree, count-is}
+use Rattle.laws.proofs.Steps.{run-steps, steps-agree, count-is}
 use Rattle.sheet_size.specs.Size.{within}
-use Rattle.point_darts.specs.Dart.{mark, slots, point, direction, far}
+use Rattle.point_darts.specs.Dart.{mark, slots, point, far}
 use Rattle.point_rules.specs.declared.turn.Turn.{Turn}
-use Rattle.point_rules.specs.Turn.{turning, isRight, isLeft}
+use Rattle.point_rules.specs.Turn.{isRight, isLeft}
 use Rattle.paper.specs.Name.{names}
-use Rattle.paper.specs.Level.{Level, side, border, mask, next, last, plain, along, kept3, among, level, marked}
+use Rattle.paper.specs.Level.{Level, border, next, last, plain, along, kept3, among, level, marked}
 use Rattle.paper.specs.Turns.{taken, turns, curveTurns}
 use Rattle.paper.specs.Drawing.{Tables, drawn, drawing, isDrawing}
 use Rattle.paper.specs.Joining.{at, on}

@@ -7,7 +7,7 @@ use mathlib.Core.Path.{_≡_, refl, sym, ap, _∙_}
 use mathlib.Core.Bool.{Bool, true, false, cond}
 use mathlib.Core.List.{List}
 use mathlib.Core.Logic.{_≢_}
-use Prim.Native.Nat.{ℕ, suc, _+_, _-_, _≤_, _<_, zero-le}
+use Prim.Native.Nat.{ℕ, suc, _+_, _-_, _≤_, _<_}
 use native.Mathlib.Omega.{arith}
 use lib.Dec.{eqb, ltb}
 use lib.ListN.{length, getD}
@@ -76,8 +76,10 @@ module _ (n : ℕ) (x : List ℕ) (e s : ℕ) where
   module _ (i r l d a : ℕ) (g : Going n x e s i r l d a) where
     -- the end is reached
     pub going-stop : a ≡ e → (r ≡ turnsTo n x e isRight s) × (l ≡ turnsTo n x e isLeft s)
-    going-stop q =
-        (omega (arith, g .right, turns-stop x e isRight i d a (g .after) q), omega (arith, g .left, turns-stop x e isLeft i d a (g .after) q))
+    going-stop q = (
+      omega (arith, g .right, turns-stop x e isRight i d a (g .after) q),
+      omega (arith, g .left, turns-stop x e isLeft i d a (g .after) q),
+    )
 
     -- no step is left
     pub going-out : i ≤ 0 → (r ≡ turnsTo n x e isRight s) × (l ≡ turnsTo n x e isLeft s)

@@ -7,18 +7,16 @@ use mathlib.Core.Bool.{Bool, true, false}
 use mathlib.Core.List.{List}
 use Prim.Native.Nat.{ℕ}
 use borrow.Author.Tests.{ltb-false}
-use Rattle.laws.specs.Run.{countTo}
-use Rattle.laws.proofs.Chart.{last as last′}
 use Rattle.laws.proofs.Loop.{Above, not-above}
 use Rattle.laws.proofs.Steps.{count-back}
 use Rattle.laws.proofs.Test.{and-left, and-right}
-use Rattle.point_darts.specs.Dart.{slots, point, direction, far, turned, reversal}
+use Rattle.point_darts.specs.Dart.{point, direction, far, turned, reversal}
 use Rattle.point_darts.specs.Point.{degree}
 use Rattle.point_darts.proofs.Darts.{direction-below, point-reversal, direction-reversal}
 use Rattle.point_rules.specs.declared.turn.Turn.{Turn}
 use Rattle.point_rules.specs.Turn.{turning, turn, isRight, isLeft}
 use Rattle.point_rules.proofs.Turns.{turn-back}
-use Rattle.paper.specs.Level.{border, mask, next, last, along, big, kept3, among, level}
+use Rattle.paper.specs.Level.{border, mask, next, along, big, kept3, among, level}
 use Rattle.paper.specs.Turns.{taken, turns}
 use Rattle.paper_laws.proofs.Next.{Lines, mask-below, way-in, point-next, direction-next, next-on, far-reversal}
 use Rattle.paper_laws.proofs.Sheet.{sheet, sheet-chart, border-lines}

@@ -5,10 +5,10 @@ use Rattle.cases_drawing.proofs.asked.show_each.Statement.{statement}
 use Rattle.cases_drawing.proofs.asked.show_each.Tie as tie
 
 abbrev Inv-loop : tie.InvT-loop
-Inv-loop depths holes i₀ i = Unit {0}
+Inv-loop first second i₀ i = Unit {0}
 
 abbrev μ-loop : tie.MeasureT-loop
-μ-loop depths holes i₀ i = length depths - i
+μ-loop first second i₀ i = length first - i
 
 loop-holds : tie.Need-loop-holds Inv-loop μ-loop
 loop-holds c = search needs

@@ -86,13 +86,15 @@ all-depths-requires : tie.Need-all-depths-requires
 all-depths-requires c κs =
     let e = c .before in
     let k = asked e in
-    accepted-depths _ _ _ _ _ _ _ _ (k .check .ensures) (checked-done e) _ (each-name _ _ _ _ (size-passed _ _ _ _ (sized k .before .refusal .ensures) (sized-done e)) .0)
+    let l = each-name _ _ _ _ (size-passed _ _ _ _ (sized k .before .refusal .ensures) (sized-done e)) in
+    accepted-depths _ _ _ _ _ _ _ _ (k .check .ensures) (checked-done e) _ (l .0)
 
 all-holes-requires : tie.Need-all-holes-requires
 all-holes-requires c κs =
     let e = c .before .before .before .before .before .before in
     let k = asked e in
-    accepted-holes _ _ _ _ _ _ _ _ (k .check .ensures) (checked-done e) _ (each-name _ _ _ _ (size-passed _ _ _ _ (sized k .before .refusal .ensures) (sized-done e)) .1 .0)
+    let l = each-name _ _ _ _ (size-passed _ _ _ _ (sized k .before .refusal .ensures) (sized-done e)) in
+    accepted-holes _ _ _ _ _ _ _ _ (k .check .ensures) (checked-done e) _ (l .1 .0)
 
 same-length-5 : tie.Need-same-length-5
 same-length-5 c = deepened (end c) .all-depths .kept .1 .0

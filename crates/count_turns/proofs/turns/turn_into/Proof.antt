@@ -1,4 +1,3 @@
-use mathlib.Core.Path.{_∙_}
 use Rattle.count_turns.proofs.Taking.{turning-mask}
 use borrow.Author.Needs.{needs}
 use Rattle.count_turns.proofs.turns.turn_into.Statement.{statement}

@@ -1,4 +1,5 @@
 use mathlib.Core.Path.{sym, _∙_}
+use native.Mathlib.Omega.{arith}
 use Rattle.point_darts.specs.Dart.{mark}
 use Rattle.count_turns.proofs.Taking.{turns-off, turns-walked, other-below, counted-met}
 use borrow.Author.Needs.{needs}
@@ -38,7 +39,8 @@ shared-slice-read-t15 : tie.Need-shared-slice-read-t15
 shared-slice-read-t15 c =
     let i = c .before in
     let k = i .before in
-    other-below (start (asked k) .pre) _ (k .before .get2 .ensures) (sym (k .is-met .ensures) ∙ i .if2 .taken) .1
+    let b = other-below (start (asked k) .pre) _ (k .before .get2 .ensures) (sym (k .is-met .ensures) ∙ i .if2 .taken) in
+    omega (arith, b .0, b .1)
 
 cast-t16 : tie.Need-cast-t16
 cast-t16 c = search needs
@@ -50,7 +52,8 @@ shared-slice-read-t19 : tie.Need-shared-slice-read-t19
 shared-slice-read-t19 c =
     let i = c .before .before in
     let k = i .before in
-    other-below (start (asked k) .pre) _ (k .before .get2 .ensures) (sym (k .is-met .ensures) ∙ i .if2 .taken) .0
+    let b = other-below (start (asked k) .pre) _ (k .before .get2 .ensures) (sym (k .is-met .ensures) ∙ i .if2 .taken) in
+    omega (arith, b .0, b .1)
 
 returns-2 : tie.Need-returns-2
 unfolding mark
@@ -58,7 +61,8 @@ returns-2 c =
     let i = c .before .before in
     let k = i .before in
     let q = asked k in
-    counted-met (start q .pre) _ (k .before .get2 .ensures) (sym (k .is-met .ensures) ∙ i .if2 .taken) _ (q .before .get .ensures) (q .if1 .left)
+    counted-met (start q .pre) _ (k .before .get2 .ensures) (sym (k .is-met .ensures) ∙ i .if2 .taken) _
+    (q .before .get .ensures) (q .if1 .left)
 
 run-requires : tie.Need-run-requires
 run-requires c κs = start (asked (c .before)) .pre .lines
