@@ -40,7 +40,7 @@ module _ (w h : ℕ) (on : ℕ → Bool) (l : Lines w h on) (d : ℕ) (e : on d 
         direction-next w on d back,
       )
 
-  pub taken-back : let u = taken w on (reversal w (next w on d)) in
+  taken-back : let u = taken w on (reversal w (next w on d)) in
       (isLeft u ≡ isRight (taken w on d)) × (isRight u ≡ isLeft (taken w on d))
   unfolding taken big
   taken-back =
