@@ -1,5 +1,7 @@
--- Filling tables ms of n entries each from a drawing, with the tables fs.
---   filled w h t n ms fs ws == the outcome
+-- Filling tables ms from a drawing, with the tables fs.
+--   fillRefusal w h t k ws == the first refusal, where k says that the tables to be filled have the stated lengths
+--   judged w h t k ws == the outcome of judging this
+--   filled w h t k ms fs ws == the outcome of filling
 --   told r ts ws    == the outcome that the answer r tells
 use mathlib.Core.Path.{_≡_, refl, sym, ap, ap₂, _∙_}
 use mathlib.Core.Bool.{Bool, true, false, _&&_, and-true, and-false}
@@ -7,18 +9,18 @@ use mathlib.Core.List.{List, [], _∷_, _++_}
 use mathlib.Core.Logic.{_≢_}
 use Prim.Native.Nat.{ℕ}
 use lib.Dec.{lit<}
-use Rattle.laws.specs.First.{firstFailed}
+use Rattle.laws.specs.First.{firstFailed, numbered}
 use Rattle.laws.proofs.First.{all-passed, failed-below}
+use Rattle.laws.proofs.Test.{and-right}
 use Rattle.sheet_size.specs.Size.{within}
 use Rattle.paper.specs.Drawing.{Tables, isDrawing}
-use Rattle.paper.specs.Refusal.{sized, stated, five, sizeTests, givenTests}
+use Rattle.paper.specs.Refusal.{Outcome, stated, five, sizeTests, givenTests}
 use Rattle.answer.specs.declared.Answer.{Answer}
 use Rattle.answer.specs.Answer.{numberOf, told}
-use Rattle.answer.proofs.Outcome.{work-left, told-early, told-refused, told-done}
-use Rattle.table_lengths.specs.Lengths.{lengths}
+use Rattle.answer.proofs.Outcome.{work-left, work-cleared, outcome-number, outcome-work, told-early, told-refused, told-done}
 use Rattle.check_answer.specs.Check.{checked}
-use Rattle.check_answer.proofs.Given.{size-numbered, given-number, given-work, accepted-work}
-use Rattle.count_call.specs.Tally.{fillRefusal, filled}
+use Rattle.check_answer.proofs.Given.{size-numbered}
+use Rattle.count_call.specs.Tally.{fillRefusal, judged, filled}
 
 -- only the first of the work tables is written
 pub first-same : {a b : List ℕ} (ws : List (List ℕ)) → a ≡ b → a ∷ ws ≡ b ∷ ws
@@ -36,47 +38,59 @@ stopped false b c d n = refl
 stopped true false c d n = rw (and-false c)
 stopped true true c d n = absurd (n refl)
 
--- nothing is refused of the lengths that k says are the stated ones
-pub size-passed : (w h : ℕ) (k : Bool) (f : Answer) → numberOf f ≡ firstFailed (sizeTests w h k) → numberOf f ≡ 0 → k ≡ true
-unfolding sizeTests
-size-passed w h k f e z = all-passed 1 5 (lit< tt) (sizeTests w h k) (size-numbered w h k) (sym e ∙ z) .1 .0
+module _ (w h : ℕ) (t : Tables) (k : Bool) (ws : List (List ℕ)) where
+  -- where the lengths are the stated ones, the check judges all
+  judged-check : k ≡ true → judged w h t k ws ≡ checked w h t ws
+  unfolding judged checked fillRefusal givenTests sizeTests
+  judged-check e = rw (e, and-true (stated w h t ws))
 
--- Tables of whose lengths the answer f is given.
-module _ (w h : ℕ) (t : Tables) (n : ℕ) (ms fs ws : List (List ℕ)) (ns ds : List ℕ)
-    (same : lengths w h ns ds ≡ sized n ms) (f : Answer) (e : numberOf f ≡ firstFailed (sizeTests w h (lengths w h ns ds))) where
-  abbrev long : Bool
-  long = sized n ms
+  -- Judging: the size and the lengths, and then the check.
+  module _ (f : Answer) (e : numberOf f ≡ firstFailed (sizeTests w h k)) where
+    pub judge-stopped : numberOf f ≢ 0 → told f (five t) ws ≡ judged w h t k ws
+    unfolding judged fillRefusal sizeTests
+    judge-stopped z =
+        let s = stopped (within w h) k (stated w h t ws) (isDrawing w h t) (λ q. z (e ∙ q)) in
+        told-early f (fillRefusal w h t k ws) (e ∙ s) z
+        (rw (← s) (failed-below 1 5 (sizeTests w h k) (lit< tt) (size-numbered w h k))) [] (five t) (five t) ws
 
-  number : numberOf f ≡ firstFailed (sizeTests w h long)
-  number = e ∙ ap (λ k. firstFailed (sizeTests w h k)) same
+    pub judge-checked : numberOf f ≡ 0 → (v : Answer) (vs : List (List ℕ)) → told v (five t) vs ≡ checked w h t ws
+        → told v (five t) vs ≡ judged w h t k ws
+    unfolding sizeTests
+    judge-checked z v vs c =
+        c ∙ sym (judged-check (all-passed 1 5 (lit< tt) (sizeTests w h k) (size-numbered w h k) (sym e ∙ z) .1 .0))
 
-  pub fill-stopped : numberOf f ≢ 0 → told f (five t ++ ms) ws ≡ filled w h t n ms fs ws
-  unfolding filled fillRefusal sizeTests
-  fill-stopped z =
-      let s = stopped (within w h) long (stated w h t ws) (isDrawing w h t) (λ q. z (number ∙ q)) in
-      told-early f (fillRefusal w h t n ms ws) (number ∙ s) z
-      (rw (← s) (failed-below 1 5 (sizeTests w h long) (lit< tt) (size-numbered w h long))) [] (five t ++ ms) (five t ++ fs) ws
+  -- A judging of the same lengths that answered v and left the work tables vs.
+  module _ (l : Bool) (same : l ≡ k) (v : Answer) (vs : List (List ℕ)) (e : told v (five t) vs ≡ judged w h t l ws) where
+    answered : told v (five t) vs ≡ judged w h t k ws
+    answered = e ∙ ap (λ b. judged w h t b ws) same
 
-  -- nothing is refused of them
-  module _ (z : numberOf f ≡ 0) where
-    same-tests : fillRefusal w h t n ms ws ≡ firstFailed (givenTests w h t ws)
-    unfolding fillRefusal givenTests sizeTests
-    same-tests = rw (size-passed w h long f number z, and-true (stated w h t ws))
+    number : numberOf v ≡ fillRefusal w h t k ws
+    unfolding told judged
+    number = ap (λ (o : Outcome). o .number) answered ∙ outcome-number (fillRefusal w h t k ws) [] (five t) (five t) ws
 
-    -- after a check that answered v
-    module _ (v : Answer) (vs : List (List ℕ)) (c : told v (five t) vs ≡ checked w h t ws) where
-      same-number : numberOf v ≡ fillRefusal w h t n ms ws
-      same-number = given-number w h t ws v vs c ∙ sym same-tests
+    work : vs ≡ work-left (fillRefusal w h t k ws) ws
+    unfolding told judged
+    work = ap (λ (o : Outcome). o .work) answered ∙ outcome-work (fillRefusal w h t k ws) [] (five t) (five t) ws
 
-      pub fill-refused : numberOf v ≢ 0 → told v (five t ++ ms) vs ≡ filled w h t n ms fs ws
-      unfolding filled
-      fill-refused q =
-          told-refused v (fillRefusal w h t n ms ws) same-number q [] (five t ++ ms) (five t ++ fs) ws vs
-          (given-work w h t ws v vs c ∙ ap (λ k. work-left k ws) (sym same-tests))
+    pub fill-refused : numberOf v ≢ 0 → (ms fs : List (List ℕ)) → told v (five t ++ ms) vs ≡ filled w h t k ms fs ws
+    unfolding filled
+    fill-refused z ms fs = told-refused v (fillRefusal w h t k ws) number z [] (five t ++ ms) (five t ++ fs) ws vs work
 
-      pub fill-done : numberOf v ≡ 0 → (gs us : List (List ℕ)) → gs ≡ fs → us ≡ vs
-          → told Answer.Done (five t ++ gs) us ≡ filled w h t n ms fs ws
+    -- nothing is refused
+    module _ (z : numberOf v ≡ 0) where
+      all-long : k ≡ true
+      unfolding fillRefusal sizeTests numbered
+      all-long = and-right (stated w h t ws) k (all-passed 1 6 (lit< tt) _ refl (sym number ∙ z) .1 .0)
+
+      pub fill-long : l ≡ true
+      fill-long = same ∙ all-long
+
+      pub fill-checked : told v (five t) vs ≡ checked w h t ws
+      fill-checked = answered ∙ judged-check all-long
+
+      pub fill-done : (ms fs gs us : List (List ℕ)) → gs ≡ fs → us ≡ vs
+          → told Answer.Done (five t ++ gs) us ≡ filled w h t k ms fs ws
       unfolding filled numberOf
-      fill-done d gs us p u =
-          told-done Answer.Done (fillRefusal w h t n ms ws) (sym d ∙ same-number) refl (five t ++ ms) (five t ++ fs) ws
-          (five t ++ gs) us (rw p) (u ∙ accepted-work w h t ws v vs c d)
+      fill-done ms fs gs us p u =
+          told-done Answer.Done (fillRefusal w h t k ws) (sym z ∙ number) refl (five t ++ ms) (five t ++ fs) ws (five t ++ gs) us
+          (rw p) (u ∙ work ∙ ap (λ r. work-left r ws) (sym number ∙ z) ∙ work-cleared 0 ws (λ q. absurd (q refl)))

@@ -1,9 +1,10 @@
 -- The outcomes of calls that fill tables from a drawing, which the paper leaves to the library.
---   fillRefusal w h t n ms ws == the first refusal, 1, 4 or 5, where tables ms of n entries each are to be filled; 0 for none
---   filled w h t n ms fs ws == the outcome of filling them with the tables fs
+--   fillRefusal w h t k ws == the first refusal, 1, 4 or 5, where k says that the tables to be filled have the stated lengths; 0 for none
+--   judged w h t k ws == the outcome of judging this
+--   filled w h t k ms fs ws == the outcome of filling the tables ms with fs
 --   tallied w h t ds hs ws == of counting depth and holes of all names, into two tables by name
 --   traced w h t rs ls ws == of counting the right turns and the left turns of the curves, into two tables by dart
-use mathlib.Core.Bool.{_&&_}
+use mathlib.Core.Bool.{Bool, _&&_}
 use mathlib.Core.List.{List, [], _∷_, _++_}
 use Prim.Native.Nat.{ℕ, _+_, _*_}
 use Rattle.laws.specs.First.{firstFailed}
@@ -16,20 +17,25 @@ use Rattle.paper.specs.Joining.{on}
 use Rattle.paper.specs.Refusal.{Outcome, outcome, sized, stated, five, sizeTests}
 use Rattle.region_depths.specs.Census.{counts}
 
-unfoldable pub fillRefusal : ℕ → ℕ → Tables → ℕ → List (List ℕ) → List (List ℕ) → ℕ
-fillRefusal w h t n ms ws = firstFailed (sizeTests w h (stated w h t ws && sized n ms) ++ (isDrawing w h t, 5) ∷ [])
+unfoldable pub fillRefusal : ℕ → ℕ → Tables → Bool → List (List ℕ) → ℕ
+fillRefusal w h t k ws = firstFailed (sizeTests w h (stated w h t ws && k) ++ (isDrawing w h t, 5) ∷ [])
 
-unfoldable pub filled : ℕ → ℕ → Tables → ℕ → List (List ℕ) → List (List ℕ) → List (List ℕ) → Outcome
-filled w h t n ms fs ws = outcome (fillRefusal w h t n ms ws) [] (five t ++ ms) (five t ++ fs) ws
+unfoldable pub judged : ℕ → ℕ → Tables → Bool → List (List ℕ) → Outcome
+judged w h t k ws = outcome (fillRefusal w h t k ws) [] (five t) (five t) ws
+
+unfoldable pub filled : ℕ → ℕ → Tables → Bool → List (List ℕ) → List (List ℕ) → List (List ℕ) → Outcome
+filled w h t k ms fs ws = outcome (fillRefusal w h t k ws) [] (five t ++ ms) (five t ++ fs) ws
 
 unfoldable pub tallied : ℕ → ℕ → Tables → List ℕ → List ℕ → List (List ℕ) → Outcome
 tallied w h t ds hs ws =
-    filled w h t (w * h + 1) (ds ∷ hs ∷ [])
+    let ms = ds ∷ hs ∷ [] in
+    filled w h t (sized (w * h + 1) ms) ms
     (counts depth (t .parent) ∷ counts (holes w h (on (t .side1))) (t .parent) ∷ [])
     ws
 
 unfoldable pub traced : ℕ → ℕ → Tables → List ℕ → List ℕ → List (List ℕ) → Outcome
 traced w h t rs ls ws =
-    filled w h t (slots w h) (rs ∷ ls ∷ [])
+    let ms = rs ∷ ls ∷ [] in
+    filled w h t (sized (slots w h) ms) ms
     (curveTurns w h (on (t .side1)) isRight ∷ curveTurns w h (on (t .side1)) isLeft ∷ [])
     ws

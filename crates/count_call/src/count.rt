@@ -1,3 +1,4 @@
+use crate::given;
 use answer::Answer;
 use check_call::check;
 use count_answer::Count;
@@ -129,11 +130,7 @@ pub fn counts(
         ⌝ }
 {
     let by_dart: [usize; 0] = [];
-    let sized = check_answer::refusal(width, height, &[depths.len(), tally.len()], &by_dart);
-    if sized.number() != 0 {
-        return sized;
-    }
-    let answer = check::check(
+    let answer = given::judge(
         width,
         height,
         next1,
@@ -141,6 +138,8 @@ pub fn counts(
         next3,
         other3,
         parent,
+        &[depths.len(), tally.len()],
+        &by_dart,
         work_a,
         work_b,
         work_c,

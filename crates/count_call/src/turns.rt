@@ -1,5 +1,5 @@
+use crate::given;
 use answer::Answer;
-use check_call::check;
 use count_turns::turns;
 ghost use mathlib.Core.Path.{_≡_};
 ghost use mathlib.Core.List.{[], _∷_, _++_};
@@ -40,11 +40,7 @@ pub fn turns(
         ⌝ }
 {
     let by_name: [usize; 0] = [];
-    let sized = check_answer::refusal(width, height, &by_name, &[right.len(), left.len()]);
-    if sized.number() != 0 {
-        return sized;
-    }
-    let answer = check::check(
+    let answer = given::judge(
         width,
         height,
         next1,
@@ -52,6 +48,8 @@ pub fn turns(
         next3,
         other3,
         parent,
+        &by_name,
+        &[right.len(), left.len()],
         work_a,
         work_b,
         work_c,
