@@ -1,6 +1,5 @@
 use mathlib.Core.Path.{sym, _∙_}
 use Rattle.count_call.proofs.Filling.{judge-stopped, judge-checked}
-use borrow.Author.Needs.{needs}
 use Rattle.count_call.proofs.given.judge.Statement.{statement}
 use Rattle.count_call.proofs.given.judge.Tie as tie
 
