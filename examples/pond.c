@@ -20,6 +20,7 @@ enum { W = 3, H = 3, CELLS = W * H, SLOTS = RAIMENOLTA_SLOTS(W, H), NAMES = RAIM
 
 static const uint16_t sheet[CELLS] = {'A', 'A', 'A', 'A', 'B', 'A', 'A', 'A', 'A'};
 static uint16_t next1[SLOTS], side1[SLOTS], next3[SLOTS], other3[SLOTS], parent[NAMES], work[4][SLOTS];
+static uint16_t right[SLOTS], left[SLOTS];
 
 /* The five tables, and the four work tables, as each call takes them. */
 #define FIVE next1, SLOTS, side1, SLOTS, next3, SLOTS, other3, SLOTS, parent, NAMES
@@ -32,7 +33,8 @@ static int refused(uint16_t number) {
     return number != 0;
 }
 
-/* Each region: name, label, parent, depth and holes. Each curve: its smaller dart, other, side and other's side. */
+/* Each region: name, label, parent, depth and holes. Each curve: its smaller dart, other, side, other's side, and the right
+ * turns and the left turns. */
 static int list(void) {
     for (uint16_t name = 1; name < NAMES; name++) {
         uint16_t depth, holes;
@@ -47,10 +49,13 @@ static int list(void) {
         }
         printf("R %u %c %u %u %u\n", name, sheet[name - 1], parent[name], depth, holes);
     }
+    if (refused(raimenolta_turns(W, H, FIVE, right, SLOTS, left, SLOTS, WORKS))) {
+        return 1;
+    }
     for (unsigned dart = 0; dart < SLOTS; dart++) {
         unsigned other = other3[dart];
         if (other != RAIMENOLTA_NONE && dart < other) {
-            printf("C %u %u %u %u\n", dart, other, side1[dart], side1[other]);
+            printf("C %u %u %u %u %u %u\n", dart, other, side1[dart], side1[other], right[dart], left[dart]);
         }
     }
     return 0;

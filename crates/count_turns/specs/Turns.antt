@@ -1,5 +1,5 @@
 -- The turns of the runs, from the tables x of level 1 next, y of level 3 next and o of level 3 other.
---   whole x         == the table x has four entries for each of its points, and they can be counted
+--   whole x         == the table x has four entries for each of some points, and at most as many as the mark
 --   takenBy x d     == the turn that is taken from dart d into the next that x has for it, among the lines that x has there
 --   turnsTo n x e is d == how many turns that pass the test is are taken from dart d on, before x leads to the dart e, n steps far
 --                      at most
