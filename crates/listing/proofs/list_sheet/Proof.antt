@@ -33,8 +33,11 @@ slice-aggregate-list-drawing c = simp length-take (omega arith)
 list-drawing-requires : tie.Need-list-drawing-requires
 list-drawing-requires c κs =
     let s = c .before .before .before in
-    let k = s .before .before in
-    (s .slots-of .ensures .1, omega (arith, s .before .cells-of .ensures .1), sym (k .before .within .ensures) ∙ not-false _ (k .if1 .left))
+    let k = s .before .before in (
+      s .slots-of .ensures .1,
+      omega (arith, s .before .cells-of .ensures .1),
+      sym (k .before .within .ensures) ∙ not-false _ (k .if1 .left),
+    )
 
 returns-2 : tie.Need-returns-2
 returns-2 c = search needs
