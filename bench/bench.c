@@ -32,7 +32,18 @@ enum { MARK = 65535, MONOTONIC = 1, ERRORS = 2 };
 /* One from before the turns of curves does not count them; their columns are then left out. */
 #ifndef PLAIN_TURNS
 #define PLAIN_TURNS 0
-#define plain_turns(width, height, five, right, left) 0
+#define plain_turns(width, height, tables, right, left) 0
+#endif
+
+/* One from before the totals draws five tables; only these are then compared. */
+#ifdef PLAIN_TOTALS
+#define RIVALS(seven) seven
+#else
+#define PLAIN_TOTALS 0
+struct seven {
+    u16 *next1, *side1, *next3, *other3, *parent, *cells, *borders;
+};
+#define RIVALS(seven) ((struct five){seven.next1, seven.side1, seven.next3, seven.other3, seven.parent})
 #endif
 
 /* The sizes that are measured, the widest where the rival takes it, and the kinds of sheets. */
@@ -51,9 +62,10 @@ enum { SQUARE = 72 * 72, CELLS = 4 * SQUARE, BATCHES = 10, ROUNDS = 8, PLACES = 
 /* The most sheets of a batch, and its most slots and names: those of the smallest sheets. */
 enum { MOST = CELLS / (LEAST * LEAST), SLOTS = 4 * (LEAST + 1) * (LEAST + 1) * MOST, NAMES = (LEAST * LEAST + 1) * MOST };
 
-/* Room for the five tables of each sheet of a batch and its two tables of turns, the tables of one side. */
+/* Room for the seven tables of each sheet of a batch and its two tables of turns, the tables of one side. */
 struct room {
-    u16 next1[SLOTS], side1[SLOTS], next3[SLOTS], other3[SLOTS], parent[NAMES], right[SLOTS], left[SLOTS];
+    u16 next1[SLOTS], side1[SLOTS], next3[SLOTS], other3[SLOTS], parent[NAMES], cells[NAMES], borders[NAMES];
+    u16 right[SLOTS], left[SLOTS];
 };
 
 static struct room our_room, plain_room;
@@ -80,17 +92,17 @@ static void need(int holds, const char *what) {
 /* The sheet at hand, its tables of both sides, and two regions of it. */
 struct hand {
     const u16 *sheet;
-    struct five our, plain;
+    struct seven our, plain;
     struct turns {
         u16 *right, *left;
     } our_turns, plain_turns;
     int a, b;
 };
 
-static struct five tables(struct room *room, int n) {
-    int at = n * slots;
-    return (struct five){room->next1 + at, room->side1 + at, room->next3 + at, room->other3 + at,
-                         room->parent + n * (cells + 1)};
+static struct seven tables(struct room *room, int n) {
+    int at = n * slots, name = n * (cells + 1);
+    return (struct seven){room->next1 + at,    room->side1 + at,   room->next3 + at,    room->other3 + at,
+                          room->parent + name, room->cells + name, room->borders + name};
 }
 
 static struct turns turns(struct room *room, int n) {
@@ -102,10 +114,11 @@ static struct hand take(int n) {
                          turns(&our_room, n), turns(&plain_room, n), 0, 0};
 }
 
-static int same(struct five a, struct five b) {
-    unsigned long links = sizeof(u16) * (unsigned long)slots;
+static int same(struct seven a, struct seven b) {
+    unsigned long links = sizeof(u16) * (unsigned long)slots, regions = sizeof(u16) * (unsigned long)(cells + 1);
     return !memcmp(a.next1, b.next1, links) && !memcmp(a.side1, b.side1, links) && !memcmp(a.next3, b.next3, links) &&
-           !memcmp(a.other3, b.other3, links) && !memcmp(a.parent, b.parent, sizeof(u16) * (unsigned long)(cells + 1));
+           !memcmp(a.other3, b.other3, links) && !memcmp(a.parent, b.parent, regions) &&
+           (!PLAIN_TOTALS || (!memcmp(a.cells, b.cells, regions) && !memcmp(a.borders, b.borders, regions)));
 }
 
 static int same_turns(struct turns a, struct turns b) {
@@ -114,35 +127,37 @@ static int same_turns(struct turns a, struct turns b) {
 }
 
 #define LINKS(t) t, (size_t)slots
-#define FIVE(f) LINKS(f.next1), LINKS(f.side1), LINKS(f.next3), LINKS(f.other3), f.parent, (size_t)cells + 1
+#define REGIONS(t) t, (size_t)cells + 1
+#define SEVEN(s) \
+    LINKS(s.next1), LINKS(s.side1), LINKS(s.next3), LINKS(s.other3), REGIONS(s.parent), REGIONS(s.cells), REGIONS(s.borders)
 #define WORKS LINKS(work[0]), LINKS(work[1]), LINKS(work[2]), LINKS(work[3])
 
 static void our_draw(struct hand h) {
-    need(!raimenolta_draw((u16)width, (u16)height, h.sheet, (size_t)cells, FIVE(h.our), WORKS), "the library refuses a sheet");
+    need(!raimenolta_draw((u16)width, (u16)height, h.sheet, (size_t)cells, SEVEN(h.our), WORKS), "the library refuses a sheet");
 }
 
 static void our_check(struct hand h) {
-    need(!raimenolta_check((u16)width, (u16)height, FIVE(h.our), WORKS), "the library refuses a drawing");
+    need(!raimenolta_check((u16)width, (u16)height, SEVEN(h.our), WORKS), "the library refuses a drawing");
 }
 
 static void our_turns(struct hand h) {
-    need(!raimenolta_turns((u16)width, (u16)height, FIVE(h.our), LINKS(h.our_turns.right), LINKS(h.our_turns.left), WORKS),
+    need(!raimenolta_turns((u16)width, (u16)height, SEVEN(h.our), LINKS(h.our_turns.right), LINKS(h.our_turns.left), WORKS),
          "the library refuses a drawing");
 }
 
 static void our_join(struct hand h) {
-    need(!raimenolta_join((u16)width, (u16)height, FIVE(h.our), (u16)h.a, (u16)h.b, WORKS), "the library refuses a join");
+    need(!raimenolta_join((u16)width, (u16)height, SEVEN(h.our), (u16)h.a, (u16)h.b, WORKS), "the library refuses a join");
 }
 
-static void its_draw(struct hand h) { plain_draw(width, height, h.sheet, h.plain); }
+static void its_draw(struct hand h) { plain_draw(width, height, h.sheet, RIVALS(h.plain)); }
 
-static void its_check(struct hand h) { need(plain_check(width, height, h.plain), "plain C refuses a drawing"); }
+static void its_check(struct hand h) { need(plain_check(width, height, RIVALS(h.plain)), "plain C refuses a drawing"); }
 
 static void its_turns(struct hand h) {
-    need(plain_turns(width, height, h.plain, h.plain_turns.right, h.plain_turns.left), "plain C refuses a drawing");
+    need(plain_turns(width, height, RIVALS(h.plain), h.plain_turns.right, h.plain_turns.left), "plain C refuses a drawing");
 }
 
-static void its_join(struct hand h) { need(!plain_join(width, height, h.plain, h.a, h.b), "plain C refuses a join"); }
+static void its_join(struct hand h) { need(!plain_join(width, height, RIVALS(h.plain), h.a, h.b), "plain C refuses a join"); }
 
 /* The times of one side for the cells of 72 by 72, in microseconds. */
 struct times {

@@ -3,9 +3,10 @@
  * Union-find over the cells gives the names, union-find over the points the pieces; of two neighbours one that is absent
  * is stood in for by the other, and roots are searched only where the two entries differ. Lines, sides and next are loops
  * over all points that the compiler turns into vector code. A dart of level 3 whose far point is kept is linked at once; a
- * longer run is walked once for its two ends. The check reads the names off the sides, draws and compares. A join checks,
- * takes out the lines that the two regions share, looks after the points at their ends, and finds pieces and parents
- * anew. Sizes and lengths are the caller's business. */
+ * longer run is walked once for its two ends. Totals are counted for even and odd points apart, so that cells of one region
+ * side by side need not wait for each other. The check reads the names off the sides, draws and compares. A join checks, takes out the
+ * lines that the two regions share, looks after the points at their ends, finds pieces and parents anew, and adds the totals.
+ * Sizes and lengths are the caller's business. */
 
 #include "plain.h"
 
@@ -174,21 +175,51 @@ static void parents(int width, int height, u16 *restrict parent) {
         }
 }
 
-/* Draws from the names. */
-static void draw_named(int width, int height, struct five five) {
-    int row = width + 1, points = row * (height + 1);
-    find_lines(row, points);
-    sides(row, points, five.side1);
-    nexts(row, points, five.next1);
-    find_pieces(row, points);
-    keep(row, points);
-    links(row, points, five.next1, five.next3, five.other3);
-    parents(width, height, five.parent);
+/* The cells and the border lines of each region. A row of cells of one region, however long, has a left line and a right line,
+ * a column an upper and a lower one; so a region has twice as many lines as its cells have to their left and above them.
+ * Each point has the cell south-east of it add to the totals; right of the sheet and below it that is the outside, which is
+ * set at the end whatever it was given. A name that no cell adds to is not in use. */
+static void totals(int width, int height, u16 *restrict cells, u16 *restrict borders) {
+    static u16 lines[POINTS], odd_cells[CELLS + 1], odd_borders[CELLS + 1];
+    int row = width + 1, points = row * height, regions = width * height + 1;
+    unsigned long each = sizeof(u16) * (unsigned long)regions;
+    for (int p = 0; p < points; p++) lines[p] = (u16)(2 * (2 + no_south[p] + no_east[p]));
+    memset(cells, 0, each);
+    memset(borders, 0, each);
+    memset(odd_cells, 0, each);
+    memset(odd_borders, 0, each);
+    for (int p = 0; p < points; p += 2) {
+        u16 even = names[p + row + 1], odd = names[p + row + 2];
+        cells[even]++;
+        borders[even] += lines[p];
+        odd_cells[odd]++;
+        odd_borders[odd] += lines[p + 1];
+    }
+    for (int r = 0; r < regions; r++) {
+        u16 sum = cells[r] + odd_cells[r], unused = ones(sum == 0);
+        cells[r] = sum | unused;
+        borders[r] = (u16)(borders[r] + odd_borders[r]) | unused;
+    }
+    cells[0] = 0;
+    borders[0] = (u16)(2 * (width + height));
 }
 
-void plain_draw(int width, int height, const u16 *sheet, struct five five) {
+/* Draws from the names. */
+static void draw_named(int width, int height, struct seven seven) {
+    int row = width + 1, points = row * (height + 1);
+    find_lines(row, points);
+    totals(width, height, seven.cells, seven.borders);
+    sides(row, points, seven.side1);
+    nexts(row, points, seven.next1);
+    find_pieces(row, points);
+    keep(row, points);
+    links(row, points, seven.next1, seven.next3, seven.other3);
+    parents(width, height, seven.parent);
+}
+
+void plain_draw(int width, int height, const u16 *sheet, struct seven seven) {
     name_cells(width, height, sheet);
-    draw_named(width, height, five);
+    draw_named(width, height, seven);
 }
 
 /* The names of the cells, read off the sides of the lines to their left. */
@@ -205,28 +236,29 @@ static void names_of(int width, int height, const u16 *side1) {
     }
 }
 
-int plain_check(int width, int height, struct five five) {
-    static u16 next1[SLOTS], side1[SLOTS], next3[SLOTS], other3[SLOTS], parent[CELLS + 1];
+int plain_check(int width, int height, struct seven seven) {
+    static u16 next1[SLOTS], side1[SLOTS], next3[SLOTS], other3[SLOTS], parent[CELLS + 1], cells[CELLS + 1], borders[CELLS + 1];
     unsigned long slots = sizeof(u16) * 4 * (unsigned long)((width + 1) * (height + 1));
     unsigned long regions = sizeof(u16) * (unsigned long)(width * height + 1);
-    names_of(width, height, five.side1);
-    plain_draw(width, height, read_names, (struct five){next1, side1, next3, other3, parent});
-    return !memcmp(five.next1, next1, slots) && !memcmp(five.side1, side1, slots) && !memcmp(five.next3, next3, slots) &&
-           !memcmp(five.other3, other3, slots) && !memcmp(five.parent, parent, regions);
+    names_of(width, height, seven.side1);
+    plain_draw(width, height, read_names, (struct seven){next1, side1, next3, other3, parent, cells, borders});
+    return !memcmp(seven.next1, next1, slots) && !memcmp(seven.side1, side1, slots) && !memcmp(seven.next3, next3, slots) &&
+           !memcmp(seven.other3, other3, slots) && !memcmp(seven.parent, parent, regions) && !memcmp(seven.cells, cells, regions) &&
+           !memcmp(seven.borders, borders, regions);
 }
 
 /* A run is walked once, for both of its ends: from the other end a right turn is a left turn. How a step turns is told by the
  * directions before and after it. */
-int plain_turns(int width, int height, struct five five, u16 *restrict right, u16 *restrict left) {
+int plain_turns(int width, int height, struct seven seven, u16 *restrict right, u16 *restrict left) {
     int slots = 4 * (width + 1) * (height + 1);
-    if (!plain_check(width, height, five)) return 0;
+    if (!plain_check(width, height, seven)) return 0;
     memset(right, 0xff, sizeof(u16) * (unsigned long)slots);
     memset(left, 0xff, sizeof(u16) * (unsigned long)slots);
     for (int d = 0; d < slots; d++) {
-        int end = five.next3[d], other = five.other3[d];
+        int end = seven.next3[d], other = seven.other3[d];
         if (end == MARK || other < d) continue;
         u16 turns[4] = {0, 0, 0, 0};
-        for (int e = d, f; (f = five.next1[e]) != end; e = f) turns[(f - e) & 3]++;
+        for (int e = d, f; (f = seven.next1[e]) != end; e = f) turns[(f - e) & 3]++;
         right[d] = left[other] = turns[1];
         left[d] = right[other] = turns[3];
     }
@@ -266,30 +298,30 @@ static int find_gone(int row, int count, const u16 *side, int a, int b) {
 
 /* Step 1: what leads to a dart that goes leads past it. The other of a dart that goes goes too, so both keep their links
  * till all is led past them. */
-static void lead_past(int row, int count, struct five five) {
+static void lead_past(int row, int count, struct seven seven) {
     int step[4] = {1, row, -1, -row};
     for (int i = 0; i < count; i++) {
         int d = listed[i];
         if (gone[d]) continue;
-        u16 after = five.next1[d];
-        while (gone[after]) after = five.next1[4 * (after / 4 + step[after & 3]) + ((after & 3) ^ 2)];
-        five.next1[d] = after;
-        after = five.next3[d];
-        while (gone[after]) after = five.next3[five.other3[after]];
-        five.next3[d] = after;
+        u16 after = seven.next1[d];
+        while (gone[after]) after = seven.next1[4 * (after / 4 + step[after & 3]) + ((after & 3) ^ 2)];
+        seven.next1[d] = after;
+        after = seven.next3[d];
+        while (gone[after]) after = seven.next3[seven.other3[after]];
+        seven.next3[d] = after;
     }
 }
 
 /* Step 1 and the sides of step 5: darts that go have no entries any more; the larger name becomes the smaller. What is
  * left in the list are the darts that went. */
-static int take_out(int count, struct five five, int smaller) {
+static int take_out(int count, struct seven seven, int smaller) {
     int went = 0;
     for (int i = 0; i < count; i++) {
         int d = listed[i], p = d / 4;
-        five.side1[d] = (u16)smaller;
+        seven.side1[d] = (u16)smaller;
         if (!gone[d]) continue;
         gone[d] = 0;
-        five.next1[d] = five.side1[d] = five.next3[d] = five.other3[d] = MARK;
+        seven.next1[d] = seven.side1[d] = seven.next3[d] = seven.other3[d] = MARK;
         if ((d & 3) == EAST) no_east[p] = MARK;
         if ((d & 3) == SOUTH) no_south[p] = MARK;
         listed[went++] = (u16)d;
@@ -309,43 +341,51 @@ static int two(const u16 *next, int p, int *first, int *last) {
 }
 
 /* Step 3 at a point. */
-static void smooth(struct five five, int p) {
+static void smooth(struct seven seven, int p) {
     int u, v;
-    if (!two(five.next3, p, &u, &v) || five.other3[u] == v) return;
-    int x = five.other3[u], y = five.other3[v];
-    five.next3[x] = five.next3[v];
-    five.next3[y] = five.next3[u];
-    five.other3[x] = (u16)y;
-    five.other3[y] = (u16)x;
-    five.next3[u] = five.next3[v] = five.other3[u] = five.other3[v] = MARK;
+    if (!two(seven.next3, p, &u, &v) || seven.other3[u] == v) return;
+    int x = seven.other3[u], y = seven.other3[v];
+    seven.next3[x] = seven.next3[v];
+    seven.next3[y] = seven.next3[u];
+    seven.other3[x] = (u16)y;
+    seven.other3[y] = (u16)x;
+    seven.next3[u] = seven.next3[v] = seven.other3[u] = seven.other3[v] = MARK;
 }
 
 /* Step 4 at a point. */
-static void close_curve(struct five five, int p) {
+static void close_curve(struct seven seven, int p) {
     int u, v, e, f;
-    if (!two(five.next3, p, &u, &v) || five.other3[u] != v || !two(five.next1, p, &e, &f)) return;
-    two(five.next1, piece[p], &e, &f);
-    five.next3[u] = five.next3[v] = five.other3[u] = five.other3[v] = MARK;
-    five.next3[e] = five.other3[f] = (u16)e;
-    five.next3[f] = five.other3[e] = (u16)f;
+    if (!two(seven.next3, p, &u, &v) || seven.other3[u] != v || !two(seven.next1, p, &e, &f)) return;
+    two(seven.next1, piece[p], &e, &f);
+    seven.next3[u] = seven.next3[v] = seven.other3[u] = seven.other3[v] = MARK;
+    seven.next3[e] = seven.other3[f] = (u16)e;
+    seven.next3[f] = seven.other3[e] = (u16)f;
 }
 
-int plain_join(int width, int height, struct five five, int a, int b) {
-    if (!plain_check(width, height, five)) return 5;
+/* The totals of the joined region: the darts that went are no border lines any more. */
+static void add_totals(struct seven seven, int smaller, int larger, int went) {
+    seven.cells[smaller] += seven.cells[larger];
+    seven.borders[smaller] += seven.borders[larger] - went;
+    seven.cells[larger] = seven.borders[larger] = MARK;
+}
+
+int plain_join(int width, int height, struct seven seven, int a, int b) {
+    if (!plain_check(width, height, seven)) return 5;
     if (a == 0 || b == 0) return 6;
     if (a == b) return 7;
     int row = width + 1, points = row * (height + 1);
-    if (a > width * height || b > width * height || five.parent[a] == MARK || five.parent[b] == MARK) return 8;
-    int count = list_darts(4 * points, five.side1, a, b);
-    if (!find_gone(row, count, five.side1, a, b)) return 9;
+    if (a > width * height || b > width * height || seven.parent[a] == MARK || seven.parent[b] == MARK) return 8;
+    int count = list_darts(4 * points, seven.side1, a, b);
+    if (!find_gone(row, count, seven.side1, a, b)) return 9;
     /* The check has left the names of all cells; the larger of the two gives way. */
     int smaller = a < b ? a : b, larger = a + b - smaller, framed = row * (height + 2) + 1;
-    lead_past(row, count, five);
-    int went = take_out(count, five, smaller);
-    for (int i = 0; i < went; i++) smooth(five, listed[i] / 4);
+    lead_past(row, count, seven);
+    int went = take_out(count, seven, smaller);
+    for (int i = 0; i < went; i++) smooth(seven, listed[i] / 4);
     find_pieces(row, points);
-    for (int i = 0; i < went; i++) close_curve(five, listed[i] / 4);
+    for (int i = 0; i < went; i++) close_curve(seven, listed[i] / 4);
     for (int k = 0; k < framed; k++) names[k] = names[k] == larger ? (u16)smaller : names[k];
-    parents(width, height, five.parent);
+    parents(width, height, seven.parent);
+    add_totals(seven, smaller, larger, went);
     return 0;
 }

@@ -3,8 +3,8 @@
 //!
 //! A kind depends on nothing but the sheet and the seed, so a case that differs can be made smaller.
 
-use crate::naive::{self, Five, Size, CARD, CELLS, COLUMNS, MARK, TALLEST, WIDEST};
-use crate::request::{difference, list, Answer, Call, Request, Server};
+use crate::naive::{self, Seven, Size, CARD, CELLS, COLUMNS, MARK, TALLEST, WIDEST};
+use crate::request::{difference, drawn, list, Answer, Call, Request, Server};
 use crate::sheets::{self, Random, Sheet};
 use std::sync::OnceLock;
 use std::time::{Duration, Instant};
@@ -94,8 +94,8 @@ pub fn kinds() -> Vec<Kind> {
         Kind { name: "joins", seconds: 22, cases: 2200, sheet: middling, compare: joins },
         // such joins in a sheet of 72 by 72 or of 110 by 72
         Kind { name: "large joins", seconds: 5, cases: 9, sheet: large, compare: joins },
-        // such joins in a sheet of many regions
-        Kind { name: "long joins", seconds: 7, cases: 2, sheet: crowded, compare: joins },
+        // such joins in a sheet of many regions, so hundreds of joins one after another
+        Kind { name: "long joins", seconds: 9, cases: 3, sheet: crowded, compare: joins },
         // joins and counts of names that are 0, equal, unused, too large or far apart
         Kind { name: "names", seconds: 6, cases: 4000, sheet: middling, compare: names },
         // tables that are most often no drawing, of a sheet up to 20 by 20
@@ -133,10 +133,13 @@ fn small(index: usize, _: &mut Random) -> Sheet {
     all[index % all.len()].clone()
 }
 
-/// A sheet of many regions.
-fn crowded(_: usize, random: &mut Random) -> Sheet {
-    let size = Size { width: 30 + random.below(43), height: 30 };
-    sheets::speckled(random, size, 4)
+/// A sheet of many regions; the third of three has a region in each cell.
+fn crowded(index: usize, random: &mut Random) -> Sheet {
+    let width = 30 + random.below(43);
+    match index % 3 {
+        2 => sheets::all_different(random, Size { width, height: 15 }),
+        _ => sheets::speckled(random, Size { width, height: 30 }, 4),
+    }
 }
 
 fn large(index: usize, random: &mut Random) -> Sheet {
@@ -183,31 +186,33 @@ fn draw(random: &mut Random, sheet: &Sheet) -> Request {
     for _ in 0..4 {
         tables.push(junk(random, sheet.size.slots()));
     }
-    tables.push(junk(random, sheet.size.names()));
+    for _ in 0..3 {
+        tables.push(junk(random, sheet.size.names()));
+    }
     words(Call::Draw, sized_numbers(sheet.size, &[]), with_works(random, sheet.size, tables))
 }
 
-fn check(random: &mut Random, size: Size, five: &Five) -> Request {
-    words(Call::Check, sized_numbers(size, &[]), with_works(random, size, list(five.clone())))
+fn check(random: &mut Random, size: Size, seven: &Seven) -> Request {
+    words(Call::Check, sized_numbers(size, &[]), with_works(random, size, list(seven.clone())))
 }
 
-fn join(random: &mut Random, size: Size, five: &Five, a: u16, b: u16) -> Request {
-    words(Call::Join, sized_numbers(size, &[a, b]), with_works(random, size, list(five.clone())))
+fn join(random: &mut Random, size: Size, seven: &Seven, a: u16, b: u16) -> Request {
+    words(Call::Join, sized_numbers(size, &[a, b]), with_works(random, size, list(seven.clone())))
 }
 
 /// A call for the depth or the holes of one name.
-fn count(random: &mut Random, call: Call, size: Size, five: &Five, name: u16) -> Request {
-    let tables = [list(five.clone()), vec![vec![random.word()]]].concat();
+fn count(random: &mut Random, call: Call, size: Size, seven: &Seven, name: u16) -> Request {
+    let tables = [list(seven.clone()), vec![vec![random.word()]]].concat();
     words(call, sized_numbers(size, &[name]), with_works(random, size, tables))
 }
 
-fn counts(random: &mut Random, size: Size, five: &Five) -> Request {
-    let tables = [list(five.clone()), vec![junk(random, size.names()), junk(random, size.names())]].concat();
+fn counts(random: &mut Random, size: Size, seven: &Seven) -> Request {
+    let tables = [list(seven.clone()), vec![junk(random, size.names()), junk(random, size.names())]].concat();
     words(Call::Counts, sized_numbers(size, &[]), with_works(random, size, tables))
 }
 
-fn turns(random: &mut Random, size: Size, five: &Five) -> Request {
-    let tables = [list(five.clone()), vec![junk(random, size.slots()), junk(random, size.slots())]].concat();
+fn turns(random: &mut Random, size: Size, seven: &Seven) -> Request {
+    let tables = [list(seven.clone()), vec![junk(random, size.slots()), junk(random, size.slots())]].concat();
     words(Call::Turns, sized_numbers(size, &[]), with_works(random, size, tables))
 }
 
@@ -239,74 +244,72 @@ fn levels(both: &mut Both, sheet: &Sheet, random: &mut Random) -> Same {
 }
 
 fn drawings(both: &mut Both, sheet: &Sheet, random: &mut Random) -> Same {
-    let five = drawn(&both.same(draw(random, sheet))?.tables[1..]);
-    both.same(check(random, sheet.size, &five))?;
-    both.same(counts(random, sheet.size, &five))?;
-    both.same(turns(random, sheet.size, &five))?;
-    let name = random.one_of(&used(&five));
-    both.same(count(random, Call::Depth, sheet.size, &five, name))?;
-    both.same(count(random, Call::Holes, sheet.size, &five, name))?;
+    let seven = drawn(&both.same(draw(random, sheet))?.tables[1..]);
+    both.same(check(random, sheet.size, &seven))?;
+    both.same(counts(random, sheet.size, &seven))?;
+    both.same(turns(random, sheet.size, &seven))?;
+    let name = random.one_of(&used(&seven));
+    both.same(count(random, Call::Depth, sheet.size, &seven, name))?;
+    both.same(count(random, Call::Holes, sheet.size, &seven, name))?;
     Ok(())
 }
 
-/// The first five of some tables.
-fn drawn(tables: &[Vec<u16>]) -> Five {
-    let table = |k: usize| tables[k].clone();
-    Five { next1: table(0), side1: table(1), next3: table(2), other3: table(3), parent: table(4) }
-}
-
 /// The names in use in a drawing, the outside too.
-fn used(five: &Five) -> Vec<u16> {
-    (0..five.parent.len()).filter(|&name| name == 0 || five.parent[name] != MARK).map(|name| name as u16).collect()
+fn used(seven: &Seven) -> Vec<u16> {
+    (0..seven.parent.len()).filter(|&name| name == 0 || seven.parent[name] != MARK).map(|name| name as u16).collect()
 }
 
 /// The pairs of regions that share a line, without the outside.
-fn neighbours(size: Size, five: &Five) -> Vec<(u16, u16)> {
-    let lines = (0..size.slots()).filter(|&dart| five.side1[dart] != MARK);
-    let sides = lines.map(|dart| (five.side1[dart], five.side1[size.reversal(dart)]));
+fn neighbours(size: Size, seven: &Seven) -> Vec<(u16, u16)> {
+    let lines = (0..size.slots()).filter(|&dart| seven.side1[dart] != MARK);
+    let sides = lines.map(|dart| (seven.side1[dart], seven.side1[size.reversal(dart)]));
     let mut pairs: Vec<(u16, u16)> = sides.filter(|&(a, b)| a != 0 && b != 0).collect();
     pairs.sort_unstable();
     pairs.dedup();
     pairs
 }
 
-/// One join that is to be done, with the naive removal rule compared as well.
+/// One join that is to be done, with the naive removal rule compared as well, and its totals with a full recount.
 fn one_join(
     both: &mut Both,
     size: Size,
-    five: &Five,
+    seven: &Seven,
     (a, b): (u16, u16),
     random: &mut Random,
-) -> Result<Five, Difference> {
-    let request = join(random, size, five, a, b);
+) -> Result<Seven, Difference> {
+    let request = join(random, size, seven, a, b);
     let answer = both.same(request.clone())?;
     let joined = drawn(&answer.tables);
-    if answer.number != 0 || joined != naive::joined_by_removal(size, five, a, b) {
-        let what = "the naive removal rule and the naive fresh drawing differ".into();
-        return Err(Difference { request, what });
-    }
-    Ok(joined)
+    let removed = naive::joined_by_removal(size, seven, a, b);
+    let what = if naive::recounted(size, &removed) != (removed.cells.clone(), removed.borders.clone()) {
+        "the totals kept by the naive removal rule and a recount differ"
+    } else if answer.number != 0 || joined != removed {
+        "the naive removal rule and the naive fresh drawing differ"
+    } else {
+        return Ok(joined);
+    };
+    Err(Difference { request, what: what.into() })
 }
 
 /// Joins until no two regions share a line, with a refused join now and then.
 fn joins(both: &mut Both, sheet: &Sheet, random: &mut Random) -> Same {
     let size = sheet.size;
-    let mut five = naive::draw(size, &sheet.labels);
+    let mut seven = naive::draw(size, &sheet.labels);
     loop {
-        let pairs = neighbours(size, &five);
+        let pairs = neighbours(size, &seven);
         if pairs.is_empty() {
             break;
         }
         let (a, b) = random.one_of(&pairs);
-        five = one_join(both, size, &five, (a, b), random)?;
+        seven = one_join(both, size, &seven, (a, b), random)?;
         if random.once_in(8) {
-            both.same(join(random, size, &five, a, b))?;
-            both.same(counts(random, size, &five))?;
-            both.same(turns(random, size, &five))?;
+            both.same(join(random, size, &seven, a, b))?;
+            both.same(counts(random, size, &seven))?;
+            both.same(turns(random, size, &seven))?;
         }
     }
-    both.same(check(random, size, &five))?;
-    both.same(turns(random, size, &five))?;
+    both.same(check(random, size, &seven))?;
+    both.same(turns(random, size, &seven))?;
     Ok(())
 }
 
@@ -315,44 +318,44 @@ fn everything(both: &mut Both, sheet: &Sheet, random: &mut Random) -> Same {
     let size = sheet.size;
     levels(both, sheet, random)?;
     drawings(both, sheet, random)?;
-    let five = naive::draw(size, &sheet.labels);
+    let seven = naive::draw(size, &sheet.labels);
     for name in 0..=size.names() as u16 {
-        both.same(count(random, Call::Depth, size, &five, name))?;
-        both.same(count(random, Call::Holes, size, &five, name))?;
+        both.same(count(random, Call::Depth, size, &seven, name))?;
+        both.same(count(random, Call::Holes, size, &seven, name))?;
     }
-    for (a, b) in neighbours(size, &five) {
-        one_join(both, size, &five, (a, b), random)?;
+    for (a, b) in neighbours(size, &seven) {
+        one_join(both, size, &seven, (a, b), random)?;
     }
-    let used = used(&five);
+    let used = used(&seven);
     for a in &used {
         let b = random.one_of(&used);
-        both.same(join(random, size, &five, *a, b))?;
+        both.same(join(random, size, &seven, *a, b))?;
     }
     joins(both, sheet, random)
 }
 
 /// A name, often none of a region.
-fn some_name(random: &mut Random, five: &Five) -> u16 {
-    let above = five.parent.len() as u16;
+fn some_name(random: &mut Random, seven: &Seven) -> u16 {
+    let above = seven.parent.len() as u16;
     match random.below(8) {
         0 => 0,
         1 => above + random.below(3) as u16,
         2 => random.one_of(&[MARK, MARK - 1, 32768, 256, 5184, 5185, 7920, 7921]),
-        3 | 4 => random.below(five.parent.len()) as u16,
-        _ => random.one_of(&used(five)),
+        3 | 4 => random.below(seven.parent.len()) as u16,
+        _ => random.one_of(&used(seven)),
     }
 }
 
 /// Joins and counts of names that are 0, equal, unused, too large or far apart.
 fn names(both: &mut Both, sheet: &Sheet, random: &mut Random) -> Same {
     let size = sheet.size;
-    let five = naive::draw(size, &sheet.labels);
+    let seven = naive::draw(size, &sheet.labels);
     for _ in 0..8 {
-        let a = some_name(random, &five);
-        let b = if random.once_in(4) { a } else { some_name(random, &five) };
-        both.same(join(random, size, &five, a, b))?;
-        both.same(count(random, Call::Depth, size, &five, a))?;
-        both.same(count(random, Call::Holes, size, &five, b))?;
+        let a = some_name(random, &seven);
+        let b = if random.once_in(4) { a } else { some_name(random, &seven) };
+        both.same(join(random, size, &seven, a, b))?;
+        both.same(count(random, Call::Depth, size, &seven, a))?;
+        both.same(count(random, Call::Holes, size, &seven, b))?;
     }
     Ok(())
 }
@@ -373,30 +376,32 @@ fn other_value(random: &mut Random, table: &[u16], old: u16) -> u16 {
 }
 
 /// Moves the anchor of a closed curve one point on, if there is a closed curve.
-fn move_an_anchor(random: &mut Random, size: Size, five: &mut Five) {
-    let alone: Vec<usize> = (0..size.slots()).filter(|&dart| five.next3[dart] as usize == dart).collect();
+fn move_an_anchor(random: &mut Random, size: Size, seven: &mut Seven) {
+    let alone: Vec<usize> = (0..size.slots()).filter(|&dart| seven.next3[dart] as usize == dart).collect();
     if alone.is_empty() {
         return;
     }
     let old = random.one_of(&alone);
-    let new = five.next1[old] as usize;
+    let new = seven.next1[old] as usize;
     let back = size.reversal(old);
-    for gone in [old, five.other3[old] as usize] {
-        five.next3[gone] = MARK;
-        five.other3[gone] = MARK;
+    for gone in [old, seven.other3[old] as usize] {
+        seven.next3[gone] = MARK;
+        seven.other3[gone] = MARK;
     }
     for (dart, other) in [(new, back), (back, new)] {
-        five.next3[dart] = dart as u16;
-        five.other3[dart] = other as u16;
+        seven.next3[dart] = dart as u16;
+        seven.other3[dart] = other as u16;
     }
 }
 
 /// Exchanges two names wherever they stand.
-fn exchange_names(random: &mut Random, five: &mut Five) {
-    let names = used(five);
+fn exchange_names(random: &mut Random, seven: &mut Seven) {
+    let names = used(seven);
     let (a, b) = (random.one_of(&names), random.one_of(&names));
-    five.parent.swap(a as usize, b as usize);
-    for entry in five.side1.iter_mut().chain(&mut five.parent) {
+    for table in [&mut seven.parent, &mut seven.cells, &mut seven.borders] {
+        table.swap(a as usize, b as usize);
+    }
+    for entry in seven.side1.iter_mut().chain(&mut seven.parent) {
         *entry = if *entry == a {
             b
         } else if *entry == b {
@@ -407,25 +412,79 @@ fn exchange_names(random: &mut Random, five: &mut Five) {
     }
 }
 
-/// Five tables of the sheet's size that are most often no drawing.
-fn damaged(random: &mut Random, sheet: &Sheet) -> Five {
+/// A join, if two regions share a line, with its totals kept wrongly: the shared lines not taken off, or once instead of
+/// twice; the larger name's totals left, or 0; its totals kept in place of the sum; some region's lines changed; all totals
+/// left as they were.
+fn join_with_wrong_totals(random: &mut Random, size: Size, seven: &mut Seven) {
+    let pairs = neighbours(size, seven);
+    if pairs.is_empty() {
+        return;
+    }
+    let (a, b) = random.one_of(&pairs);
+    let (smaller, larger) = (a.min(b) as usize, a.max(b) as usize);
+    let before = std::mem::replace(seven, naive::joined_by_removal(size, seven, a, b));
+    let added = before.borders[a as usize] + before.borders[b as usize];
+    let some = random.one_of(&used(seven)) as usize;
+    match random.below(7) {
+        0 => seven.borders[smaller] = added,
+        1 => seven.borders[smaller] = (added + seven.borders[smaller]) / 2,
+        2 => (seven.cells[larger], seven.borders[larger]) = (before.cells[larger], before.borders[larger]),
+        3 => (seven.cells[larger], seven.borders[larger]) = (0, 0),
+        4 => (seven.cells[smaller], seven.borders[smaller]) = (before.cells[larger], before.borders[larger]),
+        5 => seven.borders[some] = random.one_of(&[seven.borders[some] + 2, seven.borders[some] - 2]),
+        _ => (seven.cells, seven.borders) = (before.cells, before.borders),
+    }
+}
+
+/// Totals that are most often wrong, in tables that are a drawing but for them.
+fn wrong_totals(random: &mut Random, size: Size, seven: &mut Seven) {
+    let names = used(seven);
+    let (a, b) = (random.one_of(&names) as usize, random.one_of(&names) as usize);
+    let any = random.below(size.names());
+    let unused = (any..size.names()).find(|&name| name != 0 && seven.parent[name] == MARK);
+    let of_cells = random.once_in(2);
+    let table = if of_cells { &mut seven.cells } else { &mut seven.borders };
+    match random.below(12) {
+        0 => table[a] = random.one_of(&[table[a].wrapping_add(1), table[a].wrapping_sub(1)]),
+        1 => (table[a], table[b]) = (table[a].wrapping_add(1), table[b].wrapping_sub(1)),
+        2 => table.swap(a, b),
+        3 => {
+            seven.cells.swap(a, b);
+            seven.borders.swap(a, b);
+        }
+        4 => std::mem::swap(&mut seven.cells, &mut seven.borders),
+        5 => std::mem::swap(&mut seven.cells[a], &mut seven.borders[a]),
+        6 => table[unused.unwrap_or(a)] = random.one_of(&[0, 1, MARK - 1]),
+        7 => table.iter_mut().filter(|total| **total == MARK).for_each(|total| *total = 0),
+        8 => table[a] = random.one_of(&[0, MARK]),
+        9 if of_cells => table[0] = random.one_of(&[size.cells() as u16, 1, MARK]),
+        9 => table[0] = random.one_of(&[0, MARK, (size.width + size.height) as u16, table[0] + 4]),
+        _ => join_with_wrong_totals(random, size, seven),
+    }
+}
+
+/// Seven tables of the sheet's size that are most often no drawing.
+fn damaged(random: &mut Random, sheet: &Sheet) -> Seven {
     let size = sheet.size;
-    let mut five = naive::draw(size, &sheet.labels);
-    let mut tables = list(five.clone());
-    match random.below(14) {
+    let mut seven = naive::draw(size, &sheet.labels);
+    let mut tables = list(seven.clone());
+    match random.below(19) {
         0..=4 => {
-            let table = &mut tables[random.below(5)];
+            let table = &mut tables[random.below(7)];
             let k = random.below(table.len());
             table[k] = other_value(random, table, table[k]);
         }
         5 => {
-            let table = &mut tables[random.below(5)];
+            let table = &mut tables[random.below(7)];
             let (j, k) = (random.below(table.len()), random.below(table.len()));
             table.swap(j, k);
         }
-        6 => tables.swap(random.below(4), random.below(4)),
+        6 => match random.below(2) {
+            0 => tables.swap(random.below(4), random.below(4)),
+            _ => tables.swap(4 + random.below(3), 4 + random.below(3)),
+        },
         7 => {
-            let k = random.below(5);
+            let k = random.below(7);
             tables[k] = list(naive::draw(size, &sheets::sheet(random, size).labels)).swap_remove(k);
         }
         8 => {
@@ -436,7 +495,7 @@ fn damaged(random: &mut Random, sheet: &Sheet) -> Five {
             let fill = random.one_of(&[0, MARK]);
             match random.below(2) {
                 0 => tables.iter_mut().for_each(|table| table.fill(fill)),
-                _ => tables[random.below(5)].fill(fill),
+                _ => tables[random.below(7)].fill(fill),
             }
         }
         10 => {
@@ -445,12 +504,16 @@ fn damaged(random: &mut Random, sheet: &Sheet) -> Five {
             }
         }
         11 => {
-            move_an_anchor(random, size, &mut five);
-            return five;
+            move_an_anchor(random, size, &mut seven);
+            return seven;
         }
         12 => {
-            exchange_names(random, &mut five);
-            return five;
+            exchange_names(random, &mut seven);
+            return seven;
+        }
+        13..=17 => {
+            wrong_totals(random, size, &mut seven);
+            return seven;
         }
         _ => tables = list(naive::draw(size, &sheets::sheet(random, size).labels)),
     }
@@ -460,15 +523,15 @@ fn damaged(random: &mut Random, sheet: &Sheet) -> Five {
 /// Every call that is given a drawing, on tables that are most often none.
 fn damage(both: &mut Both, sheet: &Sheet, random: &mut Random) -> Same {
     let size = sheet.size;
-    let five = damaged(random, sheet);
-    both.same(check(random, size, &five))?;
+    let seven = damaged(random, sheet);
+    both.same(check(random, size, &seven))?;
     let pairs = neighbours(size, &naive::draw(size, &sheet.labels));
     let (a, b) = if pairs.is_empty() || random.once_in(3) { (random.word(), 0) } else { random.one_of(&pairs) };
-    both.same(join(random, size, &five, a, b))?;
-    both.same(count(random, Call::Depth, size, &five, a))?;
-    both.same(count(random, Call::Holes, size, &five, b))?;
-    both.same(counts(random, size, &five))?;
-    both.same(turns(random, size, &five))?;
+    both.same(join(random, size, &seven, a, b))?;
+    both.same(count(random, Call::Depth, size, &seven, a))?;
+    both.same(count(random, Call::Holes, size, &seven, b))?;
+    both.same(counts(random, size, &seven))?;
+    both.same(turns(random, size, &seven))?;
     Ok(())
 }
 
@@ -550,9 +613,9 @@ fn several_wrong(random: &mut Random, request: &Request) -> Request {
 /// Every call with lengths and sizes that are not the stated ones.
 fn lengths(both: &mut Both, sheet: &Sheet, random: &mut Random) -> Same {
     let size = sheet.size;
-    let five = if random.once_in(3) { damaged(random, sheet) } else { naive::draw(size, &sheet.labels) };
-    let name = some_name(random, &five);
-    let (a, b) = (some_name(random, &five), some_name(random, &five));
+    let seven = if random.once_in(3) { damaged(random, sheet) } else { naive::draw(size, &sheet.labels) };
+    let name = some_name(random, &seven);
+    let (a, b) = (some_name(random, &seven), some_name(random, &seven));
     let text = as_cells(sheet);
     let deck = naive::write(size, &text.labels);
     let number = random.below(5) as u16;
@@ -560,12 +623,12 @@ fn lengths(both: &mut Both, sheet: &Sheet, random: &mut Random) -> Same {
     let requests = [
         level(random, sheet, number),
         draw(random, sheet),
-        check(random, size, &five),
-        join(random, size, &five, a, b),
-        count(random, Call::Depth, size, &five, name),
-        count(random, Call::Holes, size, &five, name),
-        counts(random, size, &five),
-        turns(random, size, &five),
+        check(random, size, &seven),
+        join(random, size, &seven, a, b),
+        count(random, Call::Depth, size, &seven, name),
+        count(random, Call::Holes, size, &seven, name),
+        counts(random, size, &seven),
+        turns(random, size, &seven),
         read(random, deck.clone()),
         write(random, written),
         part_refusal(text.width().min(COLUMNS as u16), deck[CARD..2 * CARD].to_vec()),

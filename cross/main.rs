@@ -4,7 +4,7 @@
 //!                                              in PARTS
 //!   cross one SEED KIND SERVER..               one case again
 //!   cross vectors DIR                          the independent implementation against worked vectors
-//!   cross expect                               reads `W H ; labels` lines, prints the five tables of each by the paper
+//!   cross expect                               reads `W H ; labels` lines, prints the seven tables of each by the paper
 //!
 //! SERVER.. is the command that starts the library's side, server.c.
 //!

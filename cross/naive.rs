@@ -6,12 +6,12 @@
 //!
 //!   Size      width and height of a sheet, with its points and darts
 //!   Level     the three tables of one level: next, other, side
-//!   Five      the five tables of a drawing
+//!   Seven     the seven tables of a drawing
 //!   .._call   what a public call answers, and what it leaves in each lent table
 
 use std::collections::HashSet;
 
-/// "None" in every table of links, sides or parents.
+/// "None" in every table of links, sides, parents or totals.
 pub const MARK: u16 = 65535;
 /// The greatest width.
 pub const WIDEST: u16 = 110;
@@ -63,7 +63,7 @@ impl Size {
         4 * self.points()
     }
 
-    /// The length of the parent table: the outside and a name for each cell.
+    /// The length of a table by name: the outside and a name for each cell.
     pub fn names(self) -> usize {
         self.cells() + 1
     }
@@ -386,43 +386,78 @@ fn holes(size: Size, tops: &[Option<usize>], parents: &[u16], name: u16) -> u16 
 }
 
 // ---------------------------------------------------------------------------------------------------------------------
+// The totals of the regions
+
+/// The number of cells of each region and the number of its border lines, by full count; the mark for a name not in use. A
+/// border line of a region is a dart with this side. What the request says of all sheets is looked at here: the cells are
+/// W*H together, and the outside has none of them and 2(W+H) border lines.
+fn totals(size: Size, names: &[u16], side: &[u16]) -> (Vec<u16>, Vec<u16>) {
+    let mut cells = vec![MARK; size.names()];
+    cells[0] = 0;
+    for &name in names {
+        cells[name as usize] = 0;
+    }
+    let mut borders = cells.clone();
+    for &name in names {
+        cells[name as usize] += 1;
+    }
+    for &name in side.iter().filter(|&&side| side != MARK) {
+        borders[name as usize] += 1;
+    }
+    let rim = 2 * (size.width + size.height);
+    assert!((cells[0], borders[0] as usize) == (0, rim), "the outside has {} cells, {} lines", cells[0], borders[0]);
+    let together: usize = cells.iter().filter(|&&count| count != MARK).map(|&count| count as usize).sum();
+    assert!(together == size.cells(), "the regions have {together} cells together");
+    (cells, borders)
+}
+
+// ---------------------------------------------------------------------------------------------------------------------
 // A drawing, and joining in it
 
-/// Five tables of a drawing's kind. They are a drawing if they are the drawing of some sheet.
+/// Seven tables of a drawing's kind. They are a drawing if they are the drawing of some sheet.
 #[derive(Clone, PartialEq, Eq, Debug)]
-pub struct Five {
+pub struct Seven {
     pub next1: Vec<u16>,
     pub side1: Vec<u16>,
     pub next3: Vec<u16>,
     pub other3: Vec<u16>,
     pub parent: Vec<u16>,
+    pub cells: Vec<u16>,
+    pub borders: Vec<u16>,
 }
 
-impl Five {
+impl Seven {
     pub fn fits(&self, size: Size) -> bool {
         [&self.next1, &self.side1, &self.next3, &self.other3].iter().all(|t| t.len() == size.slots())
-            && self.parent.len() == size.names()
+            && [&self.parent, &self.cells, &self.borders].iter().all(|t| t.len() == size.names())
     }
 }
 
-pub fn draw(size: Size, labels: &[u16]) -> Five {
+pub fn draw(size: Size, labels: &[u16]) -> Seven {
     let names = names(size, labels);
     let level_1 = level_1(size, &names);
     let level_3 = runs(size, &level_1, &kept_3(size, &level_1));
     let parent = parents(size, &level_1.side, |name| names[name - 1] as usize == name);
-    Five { next1: level_1.next, side1: level_1.side, next3: level_3.next, other3: level_3.other, parent }
+    let (cells, borders) = totals(size, &names, &level_1.side);
+    let Level { next: next1, side: side1, .. } = level_1;
+    Seven { next1, side1, next3: level_3.next, other3: level_3.other, parent, cells, borders }
 }
 
-/// The name of each cell's region in a drawing, or none where the five tables are the drawing of no sheet. Two cells
-/// with no line between them bear one name; whatever sheet the tables may be the drawing of, it has these names.
-pub fn recovered(size: Size, five: &Five) -> Option<Vec<u16>> {
-    let names = flood(size, |cell, other| {
+/// The name of each cell's region by the level 1 lines: two cells with no line between them bear one name.
+pub fn names_by_lines(size: Size, side: &[u16]) -> Vec<u16> {
+    flood(size, |cell, other| {
         let last = cell.max(other);
         let corner = size.point(last % size.width, last / size.width);
         let along = if cell.abs_diff(other) == 1 && cell / size.width == other / size.width { SOUTH } else { EAST };
-        five.side1[4 * corner + along] == MARK
-    });
-    (draw(size, &names) == *five).then_some(names)
+        side[4 * corner + along] == MARK
+    })
+}
+
+/// The name of each cell's region in a drawing, or none where the seven tables are the drawing of no sheet. Whatever sheet
+/// the tables may be the drawing of, it has the names that the lines give.
+pub fn recovered(size: Size, seven: &Seven) -> Option<Vec<u16>> {
+    let names = names_by_lines(size, &seven.side1);
+    (draw(size, &names) == *seven).then_some(names)
 }
 
 /// Whether a dart of level 1 with these sides lies between two regions.
@@ -430,14 +465,14 @@ fn between(sides: (u16, u16), a: u16, b: u16) -> bool {
     sides == (a, b) || sides == (b, a)
 }
 
-pub fn share_a_line(size: Size, five: &Five, a: u16, b: u16) -> bool {
+pub fn share_a_line(size: Size, seven: &Seven, a: u16, b: u16) -> bool {
     (0..size.slots())
-        .filter(|&dart| five.side1[dart] != MARK)
-        .any(|dart| between((five.side1[dart], five.side1[size.reversal(dart)]), a, b))
+        .filter(|&dart| seven.side1[dart] != MARK)
+        .any(|dart| between((seven.side1[dart], seven.side1[size.reversal(dart)]), a, b))
 }
 
 /// Joined by drawing afresh: from the sheet whose cells bear their region names, both bearing the smaller.
-pub fn joined_afresh(size: Size, names: &[u16], a: u16, b: u16) -> Five {
+pub fn joined_afresh(size: Size, names: &[u16], a: u16, b: u16) -> Seven {
     let bear = |name: u16| if name == a || name == b { a.min(b) } else { name };
     draw(size, &names.iter().map(|&name| bear(name)).collect::<Vec<_>>())
 }
@@ -456,46 +491,64 @@ fn take(next: &mut [u16], reversal: impl Fn(usize) -> usize, taken: &[bool]) {
 }
 
 /// Takes darts of level 1 and of level 3 away, the darts of an edge together.
-fn take_from_both(size: Size, five: &mut Five, taken_1: &[bool], taken_3: &[bool]) {
-    take(&mut five.next1, |dart| size.reversal(dart), taken_1);
-    let other = five.other3.clone();
-    take(&mut five.next3, |dart| other[dart] as usize, taken_3);
+fn take_from_both(size: Size, seven: &mut Seven, taken_1: &[bool], taken_3: &[bool]) {
+    take(&mut seven.next1, |dart| size.reversal(dart), taken_1);
+    let other = seven.other3.clone();
+    take(&mut seven.next3, |dart| other[dart] as usize, taken_3);
     for dart in 0..size.slots() {
         if taken_1[dart] {
-            five.side1[dart] = MARK;
+            seven.side1[dart] = MARK;
         }
         if taken_3[dart] {
-            five.other3[dart] = MARK;
+            seven.other3[dart] = MARK;
         }
     }
 }
 
 /// Joined by the removal rule, step by step. There is no step 2: step 1 leaves no hanging end, which is looked for here.
-pub fn joined_by_removal(size: Size, five: &Five, a: u16, b: u16) -> Five {
-    let before = five;
-    let mut five = five.clone();
-    remove_shared_lines(size, &mut five, a, b);
+pub fn joined_by_removal(size: Size, seven: &Seven, a: u16, b: u16) -> Seven {
+    let before = seven;
+    let mut seven = seven.clone();
+    add_totals(size, &mut seven, a, b);
+    remove_shared_lines(size, &mut seven, a, b);
     for point in 0..size.points() {
-        let [_, _, entry] = becoming(before, &five, point);
+        let [_, _, entry] = becoming(before, &seven, point);
         assert!(entry != 4, "joining {a} and {b} reads entry 4 at point {point}");
-        for next in [&five.next1, &five.next3] {
+        for next in [&seven.next1, &seven.next3] {
             assert!(leaving(next, point).len() != 1, "joining {a} and {b} leaves a hanging end at point {point}");
         }
     }
-    remove_points_of_two_edges(size, &mut five);
-    move_loops_to_anchors(size, &mut five);
-    rename(size, &mut five, a, b);
-    five
+    remove_points_of_two_edges(size, &mut seven);
+    move_loops_to_anchors(size, &mut seven);
+    rename(size, &mut seven, a, b);
+    seven
+}
+
+/// The cells of the two regions are added, and their border lines less twice the lines that they share. The larger name is
+/// not in use any more. Each other region keeps its totals. A shared line has one dart with side a.
+fn add_totals(size: Size, seven: &mut Seven, a: u16, b: u16) {
+    let side = &seven.side1;
+    let shared = (0..size.slots()).filter(|&d| side[d] == a && side[size.reversal(d)] == b).count() as u16;
+    let (smaller, larger) = (a.min(b) as usize, a.max(b) as usize);
+    seven.cells[smaller] += seven.cells[larger];
+    seven.borders[smaller] = seven.borders[smaller] + seven.borders[larger] - 2 * shared;
+    seven.cells[larger] = MARK;
+    seven.borders[larger] = MARK;
+}
+
+/// The totals of a drawing by full count of its lines and of the cells between them.
+pub fn recounted(size: Size, seven: &Seven) -> (Vec<u16>, Vec<u16>) {
+    totals(size, &names_by_lines(size, &seven.side1), &seven.side1)
 }
 
 /// What a point becomes: the lines present, those of them taken, and the entry of the point table.
-pub fn what_becomes(size: Size, five: &Five, a: u16, b: u16, point: usize) -> [u16; 3] {
-    let mut after = five.clone();
+pub fn what_becomes(size: Size, seven: &Seven, a: u16, b: u16, point: usize) -> [u16; 3] {
+    let mut after = seven.clone();
     remove_shared_lines(size, &mut after, a, b);
-    becoming(five, &after, point)
+    becoming(seven, &after, point)
 }
 
-fn becoming(before: &Five, after: &Five, point: usize) -> [u16; 3] {
+fn becoming(before: &Seven, after: &Seven, point: usize) -> [u16; 3] {
     let present = lines_at(&before.next1, point);
     let taken = present & !lines_at(&after.next1, point);
     [present, taken, point_table(present, taken)]
@@ -517,64 +570,64 @@ pub fn point_table(present: u16, taken: u16) -> u16 {
 }
 
 /// Step 1. The sides of a level 3 dart are its side and the side of its other.
-fn remove_shared_lines(size: Size, five: &mut Five, a: u16, b: u16) {
-    let side = &five.side1;
+fn remove_shared_lines(size: Size, seven: &mut Seven, a: u16, b: u16) {
+    let side = &seven.side1;
     let slots = 0..size.slots();
     let taken_1: Vec<bool> =
-        slots.clone().map(|d| five.next1[d] != MARK && between((side[d], side[size.reversal(d)]), a, b)).collect();
+        slots.clone().map(|d| seven.next1[d] != MARK && between((side[d], side[size.reversal(d)]), a, b)).collect();
     let taken_3: Vec<bool> =
-        slots.map(|d| five.next3[d] != MARK && between((side[d], side[five.other3[d] as usize]), a, b)).collect();
-    take_from_both(size, five, &taken_1, &taken_3);
+        slots.map(|d| seven.next3[d] != MARK && between((side[d], side[seven.other3[d] as usize]), a, b)).collect();
+    take_from_both(size, seven, &taken_1, &taken_3);
 }
 
 /// Step 3.
-fn remove_points_of_two_edges(size: Size, five: &mut Five) {
+fn remove_points_of_two_edges(size: Size, seven: &mut Seven) {
     for point in 0..size.points() {
-        let [u, v] = leaving(&five.next3, point)[..] else { continue };
-        let (x, y) = (five.other3[u] as usize, five.other3[v] as usize);
+        let [u, v] = leaving(&seven.next3, point)[..] else { continue };
+        let (x, y) = (seven.other3[u] as usize, seven.other3[v] as usize);
         if x == v {
             continue;
         }
-        let (after_u, after_v) = (five.next3[u], five.next3[v]);
+        let (after_u, after_v) = (seven.next3[u], seven.next3[v]);
         for gone in [u, v] {
-            five.next3[gone] = MARK;
-            five.other3[gone] = MARK;
+            seven.next3[gone] = MARK;
+            seven.other3[gone] = MARK;
         }
-        five.other3[x] = y as u16;
-        five.other3[y] = x as u16;
-        five.next3[x] = after_v;
-        five.next3[y] = after_u;
+        seven.other3[x] = y as u16;
+        seven.other3[y] = x as u16;
+        seven.next3[x] = after_v;
+        seven.next3[y] = after_u;
     }
 }
 
 /// Step 4.
-fn move_loops_to_anchors(size: Size, five: &mut Five) {
+fn move_loops_to_anchors(size: Size, seven: &mut Seven) {
     for point in 0..size.points() {
-        let [u, v] = leaving(&five.next3, point)[..] else { continue };
-        if five.other3[u] as usize != v || leaving(&five.next1, point).len() != 2 {
+        let [u, v] = leaving(&seven.next3, point)[..] else { continue };
+        if seven.other3[u] as usize != v || leaving(&seven.next1, point).len() != 2 {
             continue;
         }
         for gone in [u, v] {
-            five.next3[gone] = MARK;
-            five.other3[gone] = MARK;
+            seven.next3[gone] = MARK;
+            seven.other3[gone] = MARK;
         }
-        let anchor = top(&round(&five.next1, u));
-        let [e, f] = leaving(&five.next1, anchor)[..] else { panic!("an anchor has two lines") };
+        let anchor = top(&round(&seven.next1, u));
+        let [e, f] = leaving(&seven.next1, anchor)[..] else { panic!("an anchor has two lines") };
         for (dart, other) in [(e, f), (f, e)] {
-            five.next3[dart] = dart as u16;
-            five.other3[dart] = other as u16;
+            seven.next3[dart] = dart as u16;
+            seven.other3[dart] = other as u16;
         }
     }
 }
 
 /// Step 5.
-fn rename(size: Size, five: &mut Five, a: u16, b: u16) {
+fn rename(size: Size, seven: &mut Seven, a: u16, b: u16) {
     let (smaller, larger) = (a.min(b), a.max(b));
-    for side in five.side1.iter_mut().filter(|side| **side == larger) {
+    for side in seven.side1.iter_mut().filter(|side| **side == larger) {
         *side = smaller;
     }
-    let old = five.parent.clone();
-    five.parent = parents(size, &five.side1, |name| name != larger as usize && old[name] != MARK);
+    let old = seven.parent.clone();
+    seven.parent = parents(size, &seven.side1, |name| name != larger as usize && old[name] != MARK);
 }
 
 // ---------------------------------------------------------------------------------------------------------------------
@@ -582,13 +635,13 @@ fn rename(size: Size, five: &mut Five, a: u16, b: u16) {
 
 /// The right turns and the left turns strictly inside the run of a level 3 dart: those taken at the points that the run
 /// passes and level 3 does not keep.
-fn turns(size: Size, five: &Five, kept: &[bool], dart: usize) -> (u16, u16) {
-    let run = run(size, &five.next1, kept, dart);
+fn turns(size: Size, seven: &Seven, kept: &[bool], dart: usize) -> (u16, u16) {
+    let run = run(size, &seven.next1, kept, dart);
     let passes = &run[..run.len() - 1];
     let turn = |&line: &usize| {
         let point = size.far(line).expect("a line on the sheet");
-        let (direction, turn) = next_line(lines_at(&five.next1, point), line as u16 % 4);
-        assert!(five.next1[line] == 4 * point as u16 + direction, "next of dart {line} is not the next line");
+        let (direction, turn) = next_line(lines_at(&seven.next1, point), line as u16 % 4);
+        assert!(seven.next1[line] == 4 * point as u16 + direction, "next of dart {line} is not the next line");
         turn
     };
     let taken = |which: Turn| passes.iter().map(turn).filter(|&turn| turn == which).count() as u16;
@@ -625,16 +678,16 @@ pub fn level_call(width: u16, height: u16, number: u16, sheet: &[u16], tables: &
     0
 }
 
-pub fn draw_call(width: u16, height: u16, sheet: &[u16], five: &mut Five, works: &mut Works) -> u16 {
+pub fn draw_call(width: u16, height: u16, sheet: &[u16], seven: &mut Seven, works: &mut Works) -> u16 {
     let Some(size) = Size::new(width, height) else { return 1 };
     if sheet.len() != size.cells() {
         return 3;
     }
-    if !five.fits(size) || !works_fit(size, works) {
+    if !seven.fits(size) || !works_fit(size, works) {
         return 4;
     }
     clear(works);
-    *five = draw(size, sheet);
+    *seven = draw(size, sheet);
     0
 }
 
@@ -642,16 +695,16 @@ pub fn draw_call(width: u16, height: u16, sheet: &[u16], five: &mut Five, works:
 fn checked(
     width: u16,
     height: u16,
-    five: &Five,
+    seven: &Seven,
     slots_fit: impl Fn(Size) -> bool,
     works: &mut Works,
 ) -> Result<(Size, Vec<u16>), u16> {
     let size = Size::new(width, height).ok_or(1u16)?;
-    if !five.fits(size) || !works_fit(size, works) || !slots_fit(size) {
+    if !seven.fits(size) || !works_fit(size, works) || !slots_fit(size) {
         return Err(4);
     }
     clear(works);
-    let names = recovered(size, five).ok_or(5u16)?;
+    let names = recovered(size, seven).ok_or(5u16)?;
     Ok((size, names))
 }
 
@@ -659,12 +712,12 @@ fn is_named(names: &[u16], name: u16) -> bool {
     names.contains(&name)
 }
 
-pub fn check_call(width: u16, height: u16, five: &Five, works: &mut Works) -> u16 {
-    checked(width, height, five, |_| true, works).err().unwrap_or(0)
+pub fn check_call(width: u16, height: u16, seven: &Seven, works: &mut Works) -> u16 {
+    checked(width, height, seven, |_| true, works).err().unwrap_or(0)
 }
 
-pub fn join_call(width: u16, height: u16, five: &mut Five, a: u16, b: u16, works: &mut Works) -> u16 {
-    let (size, names) = match checked(width, height, five, |_| true, works) {
+pub fn join_call(width: u16, height: u16, seven: &mut Seven, a: u16, b: u16, works: &mut Works) -> u16 {
+    let (size, names) = match checked(width, height, seven, |_| true, works) {
         Ok(checked) => checked,
         Err(number) => return number,
     };
@@ -677,23 +730,23 @@ pub fn join_call(width: u16, height: u16, five: &mut Five, a: u16, b: u16, works
     if !is_named(&names, a) || !is_named(&names, b) {
         return 8;
     }
-    if !share_a_line(size, five, a, b) {
+    if !share_a_line(size, seven, a, b) {
         return 9;
     }
-    *five = joined_afresh(size, &names, a, b);
+    *seven = joined_afresh(size, &names, a, b);
     0
 }
 
 /// One of the two counts of a region or of the outside, into a slot.
 fn count_call(
     (width, height): (u16, u16),
-    five: &Five,
+    seven: &Seven,
     name: u16,
     slot: &mut u16,
     works: &mut Works,
     count: impl Fn(Size) -> u16,
 ) -> u16 {
-    let (size, names) = match checked(width, height, five, |_| true, works) {
+    let (size, names) = match checked(width, height, seven, |_| true, works) {
         Ok(checked) => checked,
         Err(number) => return number,
     };
@@ -704,53 +757,60 @@ fn count_call(
     0
 }
 
-pub fn depth_call(width: u16, height: u16, five: &Five, name: u16, slot: &mut u16, works: &mut Works) -> u16 {
-    count_call((width, height), five, name, slot, works, |_| depth(&five.parent, name))
+pub fn depth_call(width: u16, height: u16, seven: &Seven, name: u16, slot: &mut u16, works: &mut Works) -> u16 {
+    count_call((width, height), seven, name, slot, works, |_| depth(&seven.parent, name))
 }
 
-pub fn holes_call(width: u16, height: u16, five: &Five, name: u16, slot: &mut u16, works: &mut Works) -> u16 {
-    let count = |size| holes(size, &tops(size, &five.side1), &five.parent, name);
-    count_call((width, height), five, name, slot, works, count)
+pub fn holes_call(width: u16, height: u16, seven: &Seven, name: u16, slot: &mut u16, works: &mut Works) -> u16 {
+    let count = |size| holes(size, &tops(size, &seven.side1), &seven.parent, name);
+    count_call((width, height), seven, name, slot, works, count)
 }
 
 /// Both counts of every name, the mark for names not in use.
 pub fn counts_call(
     width: u16,
     height: u16,
-    five: &Five,
+    seven: &Seven,
     depths: &mut [u16],
     all_holes: &mut [u16],
     works: &mut Works,
 ) -> u16 {
     let fit = |size: Size| depths.len() == size.names() && all_holes.len() == size.names();
-    let (size, names) = match checked(width, height, five, fit, works) {
+    let (size, names) = match checked(width, height, seven, fit, works) {
         Ok(checked) => checked,
         Err(number) => return number,
     };
-    let tops = tops(size, &five.side1);
+    let tops = tops(size, &seven.side1);
     for name in 0..depths.len() {
         let used = name == 0 || is_named(&names, name as u16);
-        depths[name] = if used { depth(&five.parent, name as u16) } else { MARK };
-        all_holes[name] = if used { holes(size, &tops, &five.parent, name as u16) } else { MARK };
+        depths[name] = if used { depth(&seven.parent, name as u16) } else { MARK };
+        all_holes[name] = if used { holes(size, &tops, &seven.parent, name as u16) } else { MARK };
     }
     0
 }
 
 /// The turns of every level 3 dart, the mark at every other slot. Travelled the other way, a curve's right turns are left
 /// turns, which is looked at here.
-pub fn turns_call(width: u16, height: u16, five: &Five, right: &mut [u16], left: &mut [u16], works: &mut Works) -> u16 {
+pub fn turns_call(
+    width: u16,
+    height: u16,
+    seven: &Seven,
+    right: &mut [u16],
+    left: &mut [u16],
+    works: &mut Works,
+) -> u16 {
     let fit = |size: Size| right.len() == size.slots() && left.len() == size.slots();
-    let (size, _) = match checked(width, height, five, fit, works) {
+    let (size, _) = match checked(width, height, seven, fit, works) {
         Ok(checked) => checked,
         Err(number) => return number,
     };
-    let kept: Vec<bool> = (0..size.points()).map(|point| !leaving(&five.next3, point).is_empty()).collect();
+    let kept: Vec<bool> = (0..size.points()).map(|point| !leaving(&seven.next3, point).is_empty()).collect();
     for dart in 0..size.slots() {
-        let is_dart = five.next3[dart] != MARK;
-        (right[dart], left[dart]) = if is_dart { turns(size, five, &kept, dart) } else { (MARK, MARK) };
+        let is_dart = seven.next3[dart] != MARK;
+        (right[dart], left[dart]) = if is_dart { turns(size, seven, &kept, dart) } else { (MARK, MARK) };
     }
-    for dart in (0..size.slots()).filter(|&d| five.next3[d] != MARK) {
-        let other = five.other3[dart] as usize;
+    for dart in (0..size.slots()).filter(|&d| seven.next3[d] != MARK) {
+        let other = seven.other3[dart] as usize;
         assert!((right[dart], left[dart]) == (left[other], right[other]), "the turns of {dart} and {other}, its other");
     }
     0

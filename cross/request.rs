@@ -5,7 +5,7 @@
 //! An answer is the call's answer, whether the bytes around the lent tables are as they were, and the tables and bytes
 //! afterwards, in the same order. Lengths are four bytes, numbers and entries two, the least byte first.
 
-use crate::naive::{self, Five, Level, Works};
+use crate::naive::{self, Level, Seven, Works};
 use std::io::{Read, Write};
 use std::process::{Child, Command, Stdio};
 
@@ -42,7 +42,7 @@ pub struct Answer {
     pub bytes: Vec<u8>,
 }
 
-const FIVE: [&str; 5] = ["next1", "side1", "next3", "other3", "parent"];
+const SEVEN: [&str; 7] = ["next1", "side1", "next3", "other3", "parent", "cells", "borders"];
 const WORKS: [&str; 4] = ["work_a", "work_b", "work_c", "work_d"];
 
 impl Call {
@@ -50,12 +50,12 @@ impl Call {
     pub fn tables(self) -> Vec<&'static str> {
         match self {
             Call::Level => [&["sheet", "next", "other", "side"][..], &WORKS].concat(),
-            Call::Draw => [&["sheet"][..], &FIVE, &WORKS].concat(),
-            Call::Check | Call::Join => [&FIVE[..], &WORKS].concat(),
-            Call::Depth => [&FIVE[..], &["depth"], &WORKS].concat(),
-            Call::Holes => [&FIVE[..], &["holes"], &WORKS].concat(),
-            Call::Counts => [&FIVE[..], &["depths", "holes"], &WORKS].concat(),
-            Call::Turns => [&FIVE[..], &["right", "left"], &WORKS].concat(),
+            Call::Draw => [&["sheet"][..], &SEVEN, &WORKS].concat(),
+            Call::Check | Call::Join => [&SEVEN[..], &WORKS].concat(),
+            Call::Depth => [&SEVEN[..], &["depth"], &WORKS].concat(),
+            Call::Holes => [&SEVEN[..], &["holes"], &WORKS].concat(),
+            Call::Counts => [&SEVEN[..], &["depths", "holes"], &WORKS].concat(),
+            Call::Turns => [&SEVEN[..], &["right", "left"], &WORKS].concat(),
             Call::Read => vec!["cells", "size", "card"],
             Call::Write => vec!["sheet"],
             Call::PartRefusal => vec![],
@@ -80,38 +80,38 @@ impl Request {
             }
             Call::Draw => {
                 let sheet = table();
-                let mut five = five(&mut table);
+                let mut seven = seven(&mut table);
                 let mut works = [table(), table(), table(), table()];
-                let answer = naive::draw_call(number(0), number(1), &sheet, &mut five, &mut works);
-                (answer, lay([vec![sheet], list(five)].concat(), works))
+                let answer = naive::draw_call(number(0), number(1), &sheet, &mut seven, &mut works);
+                (answer, lay([vec![sheet], list(seven)].concat(), works))
             }
             Call::Check => {
-                let five = five(&mut table);
+                let seven = seven(&mut table);
                 let mut works = [table(), table(), table(), table()];
-                let answer = naive::check_call(number(0), number(1), &five, &mut works);
-                (answer, lay(list(five), works))
+                let answer = naive::check_call(number(0), number(1), &seven, &mut works);
+                (answer, lay(list(seven), works))
             }
             Call::Join => {
-                let mut five = five(&mut table);
+                let mut seven = seven(&mut table);
                 let mut works = [table(), table(), table(), table()];
-                let answer = naive::join_call(number(0), number(1), &mut five, number(2), number(3), &mut works);
-                (answer, lay(list(five), works))
+                let answer = naive::join_call(number(0), number(1), &mut seven, number(2), number(3), &mut works);
+                (answer, lay(list(seven), works))
             }
             Call::Depth | Call::Holes => {
-                let five = five(&mut table);
+                let seven = seven(&mut table);
                 let mut slot = table();
                 let mut works = [table(), table(), table(), table()];
                 let call = if self.call == Call::Depth { naive::depth_call } else { naive::holes_call };
-                let answer = call(number(0), number(1), &five, number(2), &mut slot[0], &mut works);
-                (answer, lay([list(five), vec![slot]].concat(), works))
+                let answer = call(number(0), number(1), &seven, number(2), &mut slot[0], &mut works);
+                (answer, lay([list(seven), vec![slot]].concat(), works))
             }
             Call::Counts | Call::Turns => {
-                let five = five(&mut table);
+                let seven = seven(&mut table);
                 let (mut first, mut second) = (table(), table());
                 let mut works = [table(), table(), table(), table()];
                 let call = if self.call == Call::Counts { naive::counts_call } else { naive::turns_call };
-                let answer = call(number(0), number(1), &five, &mut first, &mut second, &mut works);
-                (answer, lay([list(five), vec![first, second]].concat(), works))
+                let answer = call(number(0), number(1), &seven, &mut first, &mut second, &mut works);
+                (answer, lay([list(seven), vec![first, second]].concat(), works))
             }
             Call::Read => {
                 let (mut cells, size, mut card) = (table(), table(), table());
@@ -146,13 +146,27 @@ impl Request {
     }
 }
 
-fn five(table: &mut impl FnMut() -> Vec<u16>) -> Five {
-    Five { next1: table(), side1: table(), next3: table(), other3: table(), parent: table() }
+fn seven(table: &mut impl FnMut() -> Vec<u16>) -> Seven {
+    Seven {
+        next1: table(),
+        side1: table(),
+        next3: table(),
+        other3: table(),
+        parent: table(),
+        cells: table(),
+        borders: table(),
+    }
 }
 
-/// The five tables in the order in which they are lent.
-pub fn list(five: Five) -> Vec<Vec<u16>> {
-    vec![five.next1, five.side1, five.next3, five.other3, five.parent]
+/// The first seven of some tables.
+pub fn drawn(tables: &[Vec<u16>]) -> Seven {
+    let mut tables = tables.iter().cloned();
+    seven(&mut || tables.next().expect("a table"))
+}
+
+/// The seven tables in the order in which they are lent.
+pub fn list(seven: Seven) -> Vec<Vec<u16>> {
+    vec![seven.next1, seven.side1, seven.next3, seven.other3, seven.parent, seven.cells, seven.borders]
 }
 
 fn lay(tables: Vec<Vec<u16>>, works: Works) -> Vec<Vec<u16>> {

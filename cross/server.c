@@ -111,7 +111,7 @@ static u16 guards_written(void) {
 }
 
 #define TABLE(k) table[k], length[k]
-#define FIVE(k) TABLE(k), TABLE(k + 1), TABLE(k + 2), TABLE(k + 3), TABLE(k + 4)
+#define SEVEN(k) TABLE(k), TABLE(k + 1), TABLE(k + 2), TABLE(k + 3), TABLE(k + 4), TABLE(k + 5), TABLE(k + 6)
 #define WORKS(k) TABLE(k), TABLE(k + 1), TABLE(k + 2), TABLE(k + 3)
 
 static u16 call(u32 which, u32 given) {
@@ -121,26 +121,26 @@ static u16 call(u32 which, u32 given) {
         need(given == 3 && tables == 8);
         return raimenolta_level(n[0], n[1], n[2], TABLE(0), TABLE(1), TABLE(2), TABLE(3), WORKS(4));
     case DRAW:
-        need(given == 2 && tables == 10);
-        return raimenolta_draw(n[0], n[1], TABLE(0), FIVE(1), WORKS(6));
+        need(given == 2 && tables == 12);
+        return raimenolta_draw(n[0], n[1], TABLE(0), SEVEN(1), WORKS(8));
     case CHECK:
-        need(given == 2 && tables == 9);
-        return raimenolta_check(n[0], n[1], FIVE(0), WORKS(5));
+        need(given == 2 && tables == 11);
+        return raimenolta_check(n[0], n[1], SEVEN(0), WORKS(7));
     case JOIN:
-        need(given == 4 && tables == 9);
-        return raimenolta_join(n[0], n[1], FIVE(0), n[2], n[3], WORKS(5));
+        need(given == 4 && tables == 11);
+        return raimenolta_join(n[0], n[1], SEVEN(0), n[2], n[3], WORKS(7));
     case DEPTH:
-        need(given == 3 && tables == 10 && length[5] == 1);
-        return raimenolta_depth(n[0], n[1], FIVE(0), n[2], table[5], WORKS(6));
+        need(given == 3 && tables == 12 && length[7] == 1);
+        return raimenolta_depth(n[0], n[1], SEVEN(0), n[2], table[7], WORKS(8));
     case HOLES:
-        need(given == 3 && tables == 10 && length[5] == 1);
-        return raimenolta_holes(n[0], n[1], FIVE(0), n[2], table[5], WORKS(6));
+        need(given == 3 && tables == 12 && length[7] == 1);
+        return raimenolta_holes(n[0], n[1], SEVEN(0), n[2], table[7], WORKS(8));
     case COUNTS:
-        need(given == 2 && tables == 11);
-        return raimenolta_counts(n[0], n[1], FIVE(0), TABLE(5), TABLE(6), WORKS(7));
+        need(given == 2 && tables == 13);
+        return raimenolta_counts(n[0], n[1], SEVEN(0), TABLE(7), TABLE(8), WORKS(9));
     case TURNS:
-        need(given == 2 && tables == 11);
-        return raimenolta_turns(n[0], n[1], FIVE(0), TABLE(5), TABLE(6), WORKS(7));
+        need(given == 2 && tables == 13);
+        return raimenolta_turns(n[0], n[1], SEVEN(0), TABLE(7), TABLE(8), WORKS(9));
     case READ:
         need(given == 0 && tables == 3 && length[1] == 2 && length[2] == 1);
         return raimenolta_read(bytes, bytes_length, TABLE(0), table[1], table[2]);

@@ -178,10 +178,7 @@ pub fn sheet(random: &mut Random, size: Size) -> Sheet {
     let (a, b) = (colours[0], colours[1]);
     match random.below(17) {
         0 => Sheet::from(size, |_, _| a),
-        1 => {
-            let start = random.word();
-            Sheet::from(size, |x, y| start.wrapping_add((y * size.width + x) as u16))
-        }
+        1 => all_different(random, size),
         2 => spiral(size, a, b),
         3 => Sheet::from(size, |x, y| if y == 0 || x % 2 == 0 { a } else { b }),
         4 => Sheet::from(size, |x, y| if x == 0 || y % 2 == 0 { a } else { b }),
@@ -217,6 +214,12 @@ pub fn painted_over(random: &mut Random, size: Size) -> Sheet {
         }
     }
     sheet
+}
+
+/// A sheet of which no two cells have one label.
+pub fn all_different(random: &mut Random, size: Size) -> Sheet {
+    let start = random.word();
+    Sheet::from(size, |x, y| start.wrapping_add((y * size.width + x) as u16))
 }
 
 /// A sheet of random labels, so many different ones.

@@ -2,25 +2,30 @@
 //!
 //! One case a line, fields parted by `;`, numbers by blanks. The files, and the fields of each:
 //!   levels.txt         W H; labels; level; next; other; side
-//!   drawings.txt       W H; labels; the five tables; name, depth, regions with this parent, of each region, the outside first
-//!   joins.txt          W H; labels; a b a b ..; the five tables after the last join
+//!   drawings.txt       W H; labels; five tables; name, depth, regions with this parent, of each region, the outside first
+//!   joins.txt          W H; labels; a b a b ..; five tables after the last join
 //!   join_refusals.txt  W H; labels; a b; number, 0 for accepted
 //!   not_drawings.txt   W H; five tables; 5, or 0 where they are a drawing
 //!   decks.txt          bytes in hexadecimal, - for none; 0 W H, or number card; labels of an accepted deck
-//! and those of the requests, in the folder `requests`:
-//!   t02_counts.txt       W H; labels; a b a b .. joined first, - for none; name depth holes of each region, the outside first
-//!   t02_order.txt        W H; the five tables and two more; name; depth: number, value if 0; holes: likewise
+//! where a drawing is the five tables that it was before request T-01, so the seven without the totals; and those of the
+//! requests, in the folder `requests`:
+//!   t01_joins.txt        W H; labels; a b a b .., - for none; seven tables after the last join
+//!   t01_not_drawings.txt W H; seven tables; 5, or 0 where they are a drawing
+//!   t01_lengths.txt      W H; number of labels; lengths of the seven tables; number that drawing answers, with W up to 72
+//!   t02_counts.txt       W H; labels; joins as in t01_joins.txt; name depth holes of each region, the outside first
+//!   t02_order.txt        W H; seven tables; name; depth: number, value if 0; holes: likewise
 //!   t03_decks.txt        as decks.txt
 //!   t03_write.txt        W H; labels; length of the lent deck; number; deck, - also where it is long
 //!   t03_part.txt         width; card; number; part
-//!   t03_joins.txt        as joins.txt, with two tables more
+//!   t03_joins.txt        as t01_joins.txt
 //!   t04_next.txt         present heading; direction, 4 for none
 //!   t05_next.txt         present heading; direction and turn, 4 none for none
-//!   t05_turns.txt        W H; labels; joins as in t02_counts.txt; dart other right left of each level 3 edge, by its smaller dart
+//!   t05_turns.txt        W H; labels; joins as in t01_joins.txt; dart other right left of each level 3 edge, by its smaller dart
 //!   t07_point_table.txt  present taken; entry
-//!   t07_joins.txt        W H; labels; a b; present taken entry of each point; the tables after the join, five or more
+//!   t07_joins.txt        W H; labels; a b; present taken entry of each point; seven tables after the join
 
-use crate::naive::{self, Five, Level, Size, Turn, Works, MARK};
+use crate::naive::{self, Level, Seven, Size, Turn, Works, MARK};
+use crate::request::{drawn, list};
 use std::path::Path;
 
 fn numbers(field: &str) -> Vec<u16> {
@@ -30,11 +35,6 @@ fn numbers(field: &str) -> Vec<u16> {
 fn bytes(field: &str) -> Vec<u8> {
     let digits = field.trim().trim_start_matches('-');
     (0..digits.len() / 2).map(|k| u8::from_str_radix(&digits[2 * k..2 * k + 2], 16).expect("a byte")).collect()
-}
-
-fn five(fields: &[Vec<u16>]) -> Five {
-    let table = |k: usize| fields[k].clone();
-    Five { next1: table(0), side1: table(1), next3: table(2), other3: table(3), parent: table(4) }
 }
 
 fn size(field: &[u16]) -> Size {
@@ -66,7 +66,7 @@ fn by_name(size: Size, list: &[u16]) -> Vec<(u16, u16)> {
 }
 
 /// Depth and holes of each name of a drawing.
-fn counted(size: Size, drawing: &Five) -> Option<Vec<(u16, u16)>> {
+fn counted(size: Size, drawing: &Seven) -> Option<Vec<(u16, u16)>> {
     let (mut depths, mut holes) = (vec![7; size.names()], vec![7; size.names()]);
     let mut works = works(size);
     let (width, height) = (size.width as u16, size.height as u16);
@@ -84,11 +84,11 @@ fn drawing(fields: &[Vec<u16>]) -> bool {
         MARK => (MARK, MARK),
         depth => (depth, inside(name)),
     });
-    drawn == five(&fields[2..7]) && regions.eq(by_name(size, &fields[7]))
+    list(drawn.clone())[..5] == fields[2..7] && regions.eq(by_name(size, &fields[7]))
 }
 
 /// The drawing of a sheet after some joins, or none where a join is refused.
-fn after_joins(fields: &[Vec<u16>]) -> Option<Five> {
+fn after_joins(fields: &[Vec<u16>]) -> Option<Seven> {
     let size = size(&fields[0]);
     let mut drawing = naive::draw(size, &fields[1]);
     let mut join = |a, b| naive::join_call(fields[0][0], fields[0][1], &mut drawing, a, b, &mut works(size));
@@ -112,35 +112,36 @@ fn counts(fields: &[Vec<u16>]) -> bool {
     counted(size, &drawing) == Some(expected) && each
 }
 
-type CountCall = fn(u16, u16, &Five, u16, &mut u16, &mut Works) -> u16;
+type CountCall = fn(u16, u16, &Seven, u16, &mut u16, &mut Works) -> u16;
 
-/// The number that each of the two counts answers, and its value; a refusal gives none and writes none. A 5 of the file may be
-/// about the two tables more, which request T-01 brings: then the first five are a drawing.
+/// The number that each of the two counts answers, and its value; a refusal gives none and writes none.
 fn counts_in_order(fields: &[Vec<u16>]) -> bool {
-    let drawing = five(&fields[1..6]);
-    let of_totals = naive::check_call(fields[0][0], fields[0][1], &drawing, &mut works(size(&fields[0]))) == 0;
+    let drawing = drawn(&fields[1..8]);
     let calls: [(CountCall, &[u16]); 2] = [(naive::depth_call, &fields[9]), (naive::holes_call, &fields[10])];
     calls.into_iter().all(|(call, expected)| {
         let mut value = 7;
         let mut works = works(size(&fields[0]));
         let number = call(fields[0][0], fields[0][1], &drawing, fields[8][0], &mut value, &mut works);
         let answer = if number == 0 { vec![0, value] } else { vec![number] };
-        (answer == expected || of_totals && expected == [5]) && clear(&works) && (number == 0 || value == 7)
+        answer == expected && clear(&works) && (number == 0 || value == 7)
     })
 }
 
-fn join(fields: &[Vec<u16>]) -> bool {
+/// Joins one after another, by the removal rule and afresh. The totals that the rule keeps are those of a recount after each
+/// join. The file has so many tables.
+fn joins(fields: &[Vec<u16>], tables: usize) -> bool {
     let size = size(&fields[0]);
     let mut drawing = naive::draw(size, &fields[1]);
     let mut works = works(size);
     for pair in fields[2].chunks(2) {
         let removed = naive::joined_by_removal(size, &drawing, pair[0], pair[1]);
         let number = naive::join_call(fields[0][0], fields[0][1], &mut drawing, pair[0], pair[1], &mut works);
-        if number != 0 || removed != drawing {
+        let kept = (removed.cells.clone(), removed.borders.clone());
+        if number != 0 || removed != drawing || kept != naive::recounted(size, &removed) {
             return false;
         }
     }
-    drawing == five(&fields[3..8])
+    fields.len() == 3 + tables && list(drawing)[..tables] == fields[3..]
 }
 
 fn next_line(fields: &[Vec<u16>]) -> bool {
@@ -193,7 +194,7 @@ fn join_by_points(fields: &[Vec<u16>]) -> bool {
     let drawing = naive::draw(size, &fields[1]);
     let [a, b] = fields[2][..] else { return false };
     let becoming = (0..size.points()).flat_map(|point| naive::what_becomes(size, &drawing, a, b, point));
-    becoming.eq(fields[3].iter().copied()) && naive::joined_by_removal(size, &drawing, a, b) == five(&fields[4..9])
+    becoming.eq(fields[3].iter().copied()) && naive::joined_by_removal(size, &drawing, a, b) == drawn(&fields[4..11])
 }
 
 fn join_refusal(fields: &[Vec<u16>]) -> bool {
@@ -205,7 +206,45 @@ fn join_refusal(fields: &[Vec<u16>]) -> bool {
 
 fn not_drawing(fields: &[Vec<u16>]) -> bool {
     let mut works = works(size(&fields[0]));
-    naive::check_call(fields[0][0], fields[0][1], &five(&fields[1..6]), &mut works) == fields[6][0] && clear(&works)
+    naive::check_call(fields[0][0], fields[0][1], &drawn(&fields[1..8]), &mut works) == fields[8][0] && clear(&works)
+}
+
+/// The file's five tables get the totals that belong to their lines, so that a 5 is about the five.
+fn not_drawing_of_five(fields: &[Vec<u16>]) -> bool {
+    let size = size(&fields[0]);
+    let Seven { cells, borders, .. } = naive::draw(size, &naive::names_by_lines(size, &fields[2]));
+    not_drawing(&[&fields[..6], &[cells, borders], &fields[6..]].concat())
+}
+
+/// The number that drawing answers for a size within the limits, by the lengths of what is lent.
+fn number_by_lengths(size: Size, labels: &[u16], lent: &[Vec<u16>]) -> u16 {
+    let stated = [[size.slots(); 4].as_slice(), &[size.names(); 3]].concat();
+    if labels.len() != size.cells() {
+        3
+    } else if !lent.iter().map(Vec::len).eq(stated) {
+        4
+    } else {
+        0
+    }
+}
+
+/// The number that drawing answers; a refusal writes nothing. The file refuses each width above 72, as the paper did before
+/// request T-03. A width that the request brought is not refused for its size any more, so its 1 is not compared.
+fn lengths(fields: &[Vec<u16>]) -> bool {
+    let [width, height] = fields[0][..] else { return false };
+    let labels = vec![7; fields[1][0] as usize];
+    let lent: Vec<Vec<u16>> = fields[2].iter().map(|&length| vec![7; length as usize]).collect();
+    let size = Size::new(width, height);
+    let expected = match (size, fields[3][0]) {
+        (Some(size), 1) if width > 72 => number_by_lengths(size, &labels, &lent),
+        (_, number) => number,
+    };
+    let mut drawing = drawn(&lent);
+    let slots = size.map_or(0, Size::slots);
+    let mut works = std::array::from_fn(|_| vec![7; slots]);
+    let number = naive::draw_call(width, height, &labels, &mut drawing, &mut works);
+    number == expected
+        && if number == 0 { clear(&works) } else { list(drawing) == lent && works.iter().flatten().all(|&n| n == 7) }
 }
 
 fn deck(line: &str) -> bool {
@@ -256,16 +295,19 @@ pub fn run(folder: &Path) -> bool {
     let results = [
         file(folder, "levels.txt", fields(level)),
         file(folder, "drawings.txt", fields(drawing)),
-        file(folder, "joins.txt", fields(join)),
+        file(folder, "joins.txt", fields(|line| joins(line, 5))),
         file(folder, "join_refusals.txt", fields(join_refusal)),
-        file(folder, "not_drawings.txt", fields(not_drawing)),
+        file(folder, "not_drawings.txt", fields(not_drawing_of_five)),
         file(folder, "decks.txt", deck),
+        file(folder, "requests/t01_joins.txt", fields(|line| joins(line, 7))),
+        file(folder, "requests/t01_not_drawings.txt", fields(not_drawing)),
+        file(folder, "requests/t01_lengths.txt", fields(lengths)),
         file(folder, "requests/t02_counts.txt", fields(counts)),
         file(folder, "requests/t02_order.txt", fields(counts_in_order)),
         file(folder, "requests/t03_decks.txt", deck),
         file(folder, "requests/t03_write.txt", written),
         file(folder, "requests/t03_part.txt", part),
-        file(folder, "requests/t03_joins.txt", fields(join)),
+        file(folder, "requests/t03_joins.txt", fields(|line| joins(line, 7))),
         file(folder, "requests/t04_next.txt", fields(next_line)),
         file(folder, "requests/t05_next.txt", next_turn),
         file(folder, "requests/t05_turns.txt", fields(turns)),
@@ -275,11 +317,11 @@ pub fn run(folder: &Path) -> bool {
     results.iter().all(|&agreed| agreed)
 }
 
-/// Prints the drawing of each sheet on standard input, in the fields of drawings.txt up to the parents.
+/// Prints the drawing of each sheet on standard input, in the fields of t01_joins.txt without the joins.
 pub fn expect() -> bool {
     for line in std::io::stdin().lines().map(|line| line.expect("a line")) {
         let fields: Vec<Vec<u16>> = line.split(';').map(numbers).collect();
-        let tables = crate::request::list(naive::draw(size(&fields[0]), &fields[1]));
+        let tables = list(naive::draw(size(&fields[0]), &fields[1]));
         let words = |table: &[u16]| table.iter().map(u16::to_string).collect::<Vec<_>>().join(" ");
         let fields: Vec<String> = fields.iter().chain(&tables).map(|field| words(field)).collect();
         println!("{}", fields.join(" ; "));

@@ -19,11 +19,11 @@
 enum { W = 3, H = 3, CELLS = W * H, SLOTS = RAIMENOLTA_SLOTS(W, H), NAMES = RAIMENOLTA_NAMES(W, H) };
 
 static const uint16_t sheet[CELLS] = {'A', 'A', 'A', 'A', 'B', 'A', 'A', 'A', 'A'};
-static uint16_t next1[SLOTS], side1[SLOTS], next3[SLOTS], other3[SLOTS], parent[NAMES], work[4][SLOTS];
-static uint16_t right[SLOTS], left[SLOTS];
+static uint16_t next1[SLOTS], side1[SLOTS], next3[SLOTS], other3[SLOTS], parent[NAMES], cells[NAMES], borders[NAMES];
+static uint16_t right[SLOTS], left[SLOTS], work[4][SLOTS];
 
-/* The five tables, and the four work tables, as each call takes them. */
-#define FIVE next1, SLOTS, side1, SLOTS, next3, SLOTS, other3, SLOTS, parent, NAMES
+/* The seven tables, and the four work tables, as each call takes them. */
+#define SEVEN next1, SLOTS, side1, SLOTS, next3, SLOTS, other3, SLOTS, parent, NAMES, cells, NAMES, borders, NAMES
 #define WORKS work[0], SLOTS, work[1], SLOTS, work[2], SLOTS, work[3], SLOTS
 
 static int refused(uint16_t number) {
@@ -33,23 +33,24 @@ static int refused(uint16_t number) {
     return number != 0;
 }
 
-/* Each region: name, label, parent, depth and holes. Each curve: its smaller dart, other, side, other's side, and the right
- * turns and the left turns. */
+/* Each region: name, label, parent, depth and holes, and its totals: name, cells and border lines. Each curve: its smaller
+ * dart, other, side, other's side, and the right turns and the left turns. */
 static int list(void) {
     for (uint16_t name = 1; name < NAMES; name++) {
         uint16_t depth, holes;
         if (parent[name] == RAIMENOLTA_NONE) {
             continue;
         }
-        if (refused(raimenolta_depth(W, H, FIVE, name, &depth, WORKS))) {
+        if (refused(raimenolta_depth(W, H, SEVEN, name, &depth, WORKS))) {
             return 1;
         }
-        if (refused(raimenolta_holes(W, H, FIVE, name, &holes, WORKS))) {
+        if (refused(raimenolta_holes(W, H, SEVEN, name, &holes, WORKS))) {
             return 1;
         }
         printf("R %u %c %u %u %u\n", name, sheet[name - 1], parent[name], depth, holes);
+        printf("T %u %u %u\n", name, cells[name], borders[name]);
     }
-    if (refused(raimenolta_turns(W, H, FIVE, right, SLOTS, left, SLOTS, WORKS))) {
+    if (refused(raimenolta_turns(W, H, SEVEN, right, SLOTS, left, SLOTS, WORKS))) {
         return 1;
     }
     for (unsigned dart = 0; dart < SLOTS; dart++) {
@@ -62,11 +63,11 @@ static int list(void) {
 }
 
 int main(void) {
-    if (refused(raimenolta_draw(W, H, sheet, CELLS, FIVE, WORKS)) || list()) {
+    if (refused(raimenolta_draw(W, H, sheet, CELLS, SEVEN, WORKS)) || list()) {
         return 1;
     }
     puts("JOIN 1 5");
-    if (refused(raimenolta_join(W, H, FIVE, 1, 5, WORKS)) || list()) {
+    if (refused(raimenolta_join(W, H, SEVEN, 1, 5, WORKS)) || list()) {
         return 1;
     }
     return 0;

@@ -7,10 +7,12 @@
  *
  * A dart is a unit line leaving a point: its number is 4 * point + direction. The point (x, y) is y * (W + 1) + x, y
  * growing downward, and the directions are 0 east, 1 south, 2 west, 3 north. A dart's side is the region on its right.
- * A table by dart has 4 * (W + 1) * (H + 1) slots. A slot without a dart, and the parent of the outside or of a name not
- * in use, hold RAIMENOLTA_NONE.
+ * A table by dart has 4 * (W + 1) * (H + 1) slots; a slot without a dart holds RAIMENOLTA_NONE. A table by name has
+ * W * H + 1 entries; that of a name not in use holds RAIMENOLTA_NONE, and so does the parent of the outside.
  *
- * A drawing is five tables: next1 and side1 (level 1), next3 and other3 (level 3), by dart, and parent, by name.
+ * A drawing is seven tables: next1 and side1 (level 1), next3 and other3 (level 3), by dart, and parent, cells and borders,
+ * by name. cells has the number of cells of each region, borders the number of its border lines, which are the level 1
+ * darts with this side. The outside has 0 cells and 2 * (W + H) border lines; the cells of all regions are W * H together.
  *
  * Every function
  * - answers a number: 0 for done, else that of the first refusal that applies, in the order of its comment;
@@ -27,7 +29,7 @@
  *    2  level above 3
  *    3  sheet length not W*H
  *    4  the length of a lent table, work table or written deck is not the stated one
- *    5  the five tables are the drawing of no sheet of this size
+ *    5  the seven tables are the drawing of no sheet of this size; one wrong number in cells or borders is enough
  *    6  a joined name is 0
  *    7  the two names are equal
  *    8  no region has that name
@@ -38,7 +40,7 @@
  *   23  a cell not 33 to 126
  *   24  a non-blank after a card's cells, to column 72
  *   25  input ends before a card starts, or bytes follow the last card
- *   26  the cell table is not of length RAIMENOLTA_CELLS
+ *   26  the reader's cell table is not of length RAIMENOLTA_CELLS
  *   27  a label to be written is not 33 to 126
  */
 #ifndef RAIMENOLTA_H
@@ -47,7 +49,7 @@
 #include <stddef.h>
 #include <stdint.h>
 
-/* No dart, point or name. */
+/* No dart, point, name or total. */
 #define RAIMENOLTA_NONE 65535
 
 /* The length of a table by dart. */
@@ -86,8 +88,8 @@ uint16_t raimenolta_level(
     uint16_t *work_d, size_t work_d_length);
 
 /*
- * Draws a sheet: reads sheet (W*H), writes the five tables (RAIMENOLTA_SLOTS each, parent RAIMENOLTA_NAMES).
- * Refusals 1, 3, 4.
+ * Draws a sheet: reads sheet (W*H), writes the seven tables (RAIMENOLTA_SLOTS each; parent, cells and borders
+ * RAIMENOLTA_NAMES each). Refusals 1, 3, 4.
  */
 uint16_t raimenolta_draw(
     uint16_t width, uint16_t height,
@@ -97,14 +99,16 @@ uint16_t raimenolta_draw(
     uint16_t *next3, size_t next3_length,
     uint16_t *other3, size_t other3_length,
     uint16_t *parent, size_t parent_length,
+    uint16_t *cells, size_t cells_length,
+    uint16_t *borders, size_t borders_length,
     uint16_t *work_a, size_t work_a_length,
     uint16_t *work_b, size_t work_b_length,
     uint16_t *work_c, size_t work_c_length,
     uint16_t *work_d, size_t work_d_length);
 
 /*
- * Checks whether the five tables are the drawing of some sheet of this size: reads them (RAIMENOLTA_SLOTS each, parent
- * RAIMENOLTA_NAMES). Refusals 1, 4, 5; 0 says that they are.
+ * Checks whether the seven tables are the drawing of some sheet of this size: reads them (RAIMENOLTA_SLOTS each; parent,
+ * cells and borders RAIMENOLTA_NAMES each). Refusals 1, 4, 5; 0 says that they are.
  */
 uint16_t raimenolta_check(
     uint16_t width, uint16_t height,
@@ -113,14 +117,18 @@ uint16_t raimenolta_check(
     const uint16_t *next3, size_t next3_length,
     const uint16_t *other3, size_t other3_length,
     const uint16_t *parent, size_t parent_length,
+    const uint16_t *cells, size_t cells_length,
+    const uint16_t *borders, size_t borders_length,
     uint16_t *work_a, size_t work_a_length,
     uint16_t *work_b, size_t work_b_length,
     uint16_t *work_c, size_t work_c_length,
     uint16_t *work_d, size_t work_d_length);
 
 /*
- * Joins the regions named a and b in a drawing: reads and writes the five tables (RAIMENOLTA_SLOTS each, parent
- * RAIMENOLTA_NAMES). The joined region has the smaller name. Refusals 1, 4, 5, 6, 7, 8, 9.
+ * Joins the regions named a and b in a drawing: reads and writes the seven tables (RAIMENOLTA_SLOTS each; parent, cells and
+ * borders RAIMENOLTA_NAMES each). The joined region has the smaller name, the cells of both, and the border lines of both
+ * less twice the lines that they share. The larger name is no longer in use: its parent, cells and borders are
+ * RAIMENOLTA_NONE. Every other region keeps its cells and its border lines. Refusals 1, 4, 5, 6, 7, 8, 9.
  */
 uint16_t raimenolta_join(
     uint16_t width, uint16_t height,
@@ -129,6 +137,8 @@ uint16_t raimenolta_join(
     uint16_t *next3, size_t next3_length,
     uint16_t *other3, size_t other3_length,
     uint16_t *parent, size_t parent_length,
+    uint16_t *cells, size_t cells_length,
+    uint16_t *borders, size_t borders_length,
     uint16_t a, uint16_t b,
     uint16_t *work_a, size_t work_a_length,
     uint16_t *work_b, size_t work_b_length,
@@ -136,8 +146,8 @@ uint16_t raimenolta_join(
     uint16_t *work_d, size_t work_d_length);
 
 /*
- * The depth of a region, or of the outside for the name 0: reads the five tables (RAIMENOLTA_SLOTS each, parent
- * RAIMENOLTA_NAMES), writes the one number at depth. Refusals 1, 4, 5, 8.
+ * The depth of a region, or of the outside for the name 0: reads the seven tables (RAIMENOLTA_SLOTS each; parent, cells and
+ * borders RAIMENOLTA_NAMES each), writes the one number at depth. Refusals 1, 4, 5, 8.
  */
 uint16_t raimenolta_depth(
     uint16_t width, uint16_t height,
@@ -146,6 +156,8 @@ uint16_t raimenolta_depth(
     const uint16_t *next3, size_t next3_length,
     const uint16_t *other3, size_t other3_length,
     const uint16_t *parent, size_t parent_length,
+    const uint16_t *cells, size_t cells_length,
+    const uint16_t *borders, size_t borders_length,
     uint16_t name, uint16_t *depth,
     uint16_t *work_a, size_t work_a_length,
     uint16_t *work_b, size_t work_b_length,
@@ -155,8 +167,8 @@ uint16_t raimenolta_depth(
 /*
  * The holes of a region, or of the outside for the name 0: how many different pieces of border, lines joined through
  * points, are the outer pieces of the regions whose parent it is. However many regions fill a hole, it is one; the outside
- * has one. Reads the five tables (RAIMENOLTA_SLOTS each, parent RAIMENOLTA_NAMES), writes the one number at holes.
- * Refusals 1, 4, 5, 8.
+ * has one. Reads the seven tables (RAIMENOLTA_SLOTS each; parent, cells and borders RAIMENOLTA_NAMES each), writes the one
+ * number at holes. Refusals 1, 4, 5, 8.
  */
 uint16_t raimenolta_holes(
     uint16_t width, uint16_t height,
@@ -165,6 +177,8 @@ uint16_t raimenolta_holes(
     const uint16_t *next3, size_t next3_length,
     const uint16_t *other3, size_t other3_length,
     const uint16_t *parent, size_t parent_length,
+    const uint16_t *cells, size_t cells_length,
+    const uint16_t *borders, size_t borders_length,
     uint16_t name, uint16_t *holes,
     uint16_t *work_a, size_t work_a_length,
     uint16_t *work_b, size_t work_b_length,
@@ -172,8 +186,9 @@ uint16_t raimenolta_holes(
     uint16_t *work_d, size_t work_d_length);
 
 /*
- * Depth and hole count of every name at once: reads the five tables (RAIMENOLTA_SLOTS each, parent RAIMENOLTA_NAMES),
- * writes depths and holes (RAIMENOLTA_NAMES each), by name, RAIMENOLTA_NONE for a name not in use. Refusals 1, 4, 5.
+ * Depth and hole count of every name at once: reads the seven tables (RAIMENOLTA_SLOTS each; parent, cells and borders
+ * RAIMENOLTA_NAMES each), writes depths and holes (RAIMENOLTA_NAMES each), by name, RAIMENOLTA_NONE for a name not in use.
+ * Refusals 1, 4, 5.
  */
 uint16_t raimenolta_counts(
     uint16_t width, uint16_t height,
@@ -182,6 +197,8 @@ uint16_t raimenolta_counts(
     const uint16_t *next3, size_t next3_length,
     const uint16_t *other3, size_t other3_length,
     const uint16_t *parent, size_t parent_length,
+    const uint16_t *cells, size_t cells_length,
+    const uint16_t *borders, size_t borders_length,
     uint16_t *depths, size_t depths_length,
     uint16_t *holes, size_t holes_length,
     uint16_t *work_a, size_t work_a_length,
@@ -192,8 +209,9 @@ uint16_t raimenolta_counts(
 /*
  * The turns of every curve at once: of each level 3 dart, the right turns and the left turns taken strictly inside its run
  * along next1 to the next point that level 3 keeps, so without those at the run's two end points. The turns of its other are
- * the same two numbers exchanged. Reads the five tables (RAIMENOLTA_SLOTS each, parent RAIMENOLTA_NAMES), writes right and
- * left (RAIMENOLTA_SLOTS each), by dart, RAIMENOLTA_NONE at a slot without a level 3 dart. Refusals 1, 4, 5.
+ * the same two numbers exchanged. Reads the seven tables (RAIMENOLTA_SLOTS each; parent, cells and borders RAIMENOLTA_NAMES
+ * each), writes right and left (RAIMENOLTA_SLOTS each), by dart, RAIMENOLTA_NONE at a slot without a level 3 dart.
+ * Refusals 1, 4, 5.
  */
 uint16_t raimenolta_turns(
     uint16_t width, uint16_t height,
@@ -202,6 +220,8 @@ uint16_t raimenolta_turns(
     const uint16_t *next3, size_t next3_length,
     const uint16_t *other3, size_t other3_length,
     const uint16_t *parent, size_t parent_length,
+    const uint16_t *cells, size_t cells_length,
+    const uint16_t *borders, size_t borders_length,
     uint16_t *right, size_t right_length,
     uint16_t *left, size_t left_length,
     uint16_t *work_a, size_t work_a_length,

@@ -16,6 +16,8 @@ pub fn draw(size: Size, sheet: &[u16], lengths: Lengths) -> Answered
     let y = lengths.next3;
     let o = lengths.other3;
     let p = lengths.parent;
+    let n = lengths.cells;
+    let l = lengths.borders;
     let ka = lengths.a;
     let kb = lengths.b;
     let kc = lengths.c;
@@ -25,6 +27,8 @@ pub fn draw(size: Size, sheet: &[u16], lengths: Lengths) -> Answered
     let mut next3 = [lent::UNTOUCHED; lent::ROOM];
     let mut other3 = [lent::UNTOUCHED; lent::ROOM];
     let mut parent = [lent::UNTOUCHED; lent::ROOM];
+    let mut cells = [lent::UNTOUCHED; lent::ROOM];
+    let mut borders = [lent::UNTOUCHED; lent::ROOM];
     let mut a = [lent::UNTOUCHED; lent::ROOM];
     let mut b = [lent::UNTOUCHED; lent::ROOM];
     let mut c = [lent::UNTOUCHED; lent::ROOM];
@@ -38,6 +42,8 @@ pub fn draw(size: Size, sheet: &[u16], lengths: Lengths) -> Answered
         &mut next3[..y],
         &mut other3[..o],
         &mut parent[..p],
+        &mut cells[..n],
+        &mut borders[..l],
         &mut a[..ka],
         &mut b[..kb],
         &mut c[..kc],
@@ -51,6 +57,8 @@ pub fn draw(size: Size, sheet: &[u16], lengths: Lengths) -> Answered
             next3,
             other3,
             parent,
+            cells,
+            borders,
         },
         works: Works { a, b, c, d },
     }

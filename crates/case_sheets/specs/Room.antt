@@ -12,6 +12,8 @@ pub record Fits (l : Lengths) : Type 0 where
   pub next3 : l .next3 ≤ room
   pub other3 : l .other3 ≤ room
   pub parent : l .parent ≤ room
+  pub cells : l .cells ≤ room
+  pub borders : l .borders ≤ room
   pub a : l .a ≤ room
   pub b : l .b ≤ room
   pub c : l .c ≤ room

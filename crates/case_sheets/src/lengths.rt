@@ -7,13 +7,15 @@ pub struct Size {
     pub height: u16,
 }
 
-// How long the five tables and the four work tables of a case are.
+// How long the seven tables and the four work tables of a case are.
 pub struct Lengths {
     pub next1: usize,
     pub side1: usize,
     pub next3: usize,
     pub other3: usize,
     pub parent: usize,
+    pub cells: usize,
+    pub borders: usize,
     pub a: usize,
     pub b: usize,
     pub c: usize,
@@ -30,10 +32,12 @@ pub fn given(lengths: &[u16]) -> Lengths
         next3: lent::length(lengths, 2),
         other3: lent::length(lengths, 3),
         parent: lent::length(lengths, 4),
-        a: lent::length(lengths, 5),
-        b: lent::length(lengths, 6),
-        c: lent::length(lengths, 7),
-        d: lent::length(lengths, 8),
+        cells: lent::length(lengths, 5),
+        borders: lent::length(lengths, 6),
+        a: lent::length(lengths, 7),
+        b: lent::length(lengths, 8),
+        c: lent::length(lengths, 9),
+        d: lent::length(lengths, 10),
     }
 }
 
@@ -48,6 +52,8 @@ pub fn stated(size: Size) -> Lengths
         slots,
         slots,
         slots,
+        names,
+        names,
         names,
         slots,
         slots,

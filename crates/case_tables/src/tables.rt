@@ -3,13 +3,15 @@ use case_sheets::lengths::Lengths;
 use case_sheets::lent;
 use table_entries::entry;
 
-// The five tables of a drawing, each with room for the longest.
+// The seven tables of a drawing, each with room for the longest.
 pub struct Tables {
     pub next1: [u16; lent::ROOM],
     pub side1: [u16; lent::ROOM],
     pub next3: [u16; lent::ROOM],
     pub other3: [u16; lent::ROOM],
     pub parent: [u16; lent::ROOM],
+    pub cells: [u16; lent::ROOM],
+    pub borders: [u16; lent::ROOM],
 }
 
 // Four work tables, each with room for the longest.
@@ -39,37 +41,45 @@ fn filled(list: &[u16]) -> [u16; lent::ROOM] {
     table
 }
 
-// The five tables that stand one after another in a list, by their lengths.
+// The seven tables that stand one after another in a list, by their lengths.
 pub fn given(lengths: &[u16], list: &[u16]) -> Tables {
     let s = lent::length(lengths, 0);
     let y = s + lent::length(lengths, 1);
     let o = y + lent::length(lengths, 2);
     let p = o + lent::length(lengths, 3);
+    let c = p + lent::length(lengths, 4);
+    let b = c + lent::length(lengths, 5);
     Tables {
         next1: filled(list),
         side1: filled(lent::from(list, s)),
         next3: filled(lent::from(list, y)),
         other3: filled(lent::from(list, o)),
         parent: filled(lent::from(list, p)),
+        cells: filled(lent::from(list, c)),
+        borders: filled(lent::from(list, b)),
     }
 }
 
-// Whether five tables are the same as five others.
+// Whether seven tables are the same as seven others.
 pub fn same(tables: Tables, others: Tables) -> bool {
     entry::same(&tables.next1, &others.next1)
         & entry::same(&tables.side1, &others.side1)
         & entry::same(&tables.next3, &others.next3)
         & entry::same(&tables.other3, &others.other3)
         & entry::same(&tables.parent, &others.parent)
+        & entry::same(&tables.cells, &others.cells)
+        & entry::same(&tables.borders, &others.borders)
 }
 
-// Writes the five tables of a drawing, in full or by their sums.
+// Writes the seven tables of a drawing, in full or by their sums.
 pub fn show(lengths: Lengths, tables: Tables, full: bool) {
     show::table(front(&tables.next1, lengths.next1), full);
     show::table(front(&tables.side1, lengths.side1), full);
     show::table(front(&tables.next3, lengths.next3), full);
     show::table(front(&tables.other3, lengths.other3), full);
     show::table(front(&tables.parent, lengths.parent), full);
+    show::table(front(&tables.cells, lengths.cells), full);
+    show::table(front(&tables.borders, lengths.borders), full);
 }
 
 // Whether a table is as it was before a call.
@@ -77,13 +87,15 @@ pub fn untouched(table: &[u16; lent::ROOM]) -> bool {
     lent::all_are(table, lent::UNTOUCHED)
 }
 
-// Whether five tables are as they were before a call.
+// Whether seven tables are as they were before a call.
 pub fn all_untouched(tables: Tables) -> bool {
     untouched(&tables.next1)
         & untouched(&tables.side1)
         & untouched(&tables.next3)
         & untouched(&tables.other3)
         & untouched(&tables.parent)
+        & untouched(&tables.cells)
+        & untouched(&tables.borders)
 }
 
 // Whether the work tables are as they were before a call.

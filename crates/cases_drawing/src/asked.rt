@@ -47,6 +47,8 @@ fn check_of(size: Size, lengths: Lengths, tables: Tables) -> Checked
     let next3 = tables.next3;
     let other3 = tables.other3;
     let parent = tables.parent;
+    let cells = tables.cells;
+    let borders = tables.borders;
     let mut a = [lent::UNTOUCHED; lent::ROOM];
     let mut b = [lent::UNTOUCHED; lent::ROOM];
     let mut c = [lent::UNTOUCHED; lent::ROOM];
@@ -59,6 +61,8 @@ fn check_of(size: Size, lengths: Lengths, tables: Tables) -> Checked
         tables::front(&next3, lengths.next3),
         tables::front(&other3, lengths.other3),
         tables::front(&parent, lengths.parent),
+        tables::front(&cells, lengths.cells),
+        tables::front(&borders, lengths.borders),
         &mut a[..ka],
         &mut b[..kb],
         &mut c[..kc],
@@ -123,6 +127,8 @@ fn counts_of(size: Size, m: usize, h: usize, lengths: Lengths, tables: Tables) -
     let next3 = tables.next3;
     let other3 = tables.other3;
     let parent = tables.parent;
+    let cells = tables.cells;
+    let borders = tables.borders;
     let mut depths = [lent::UNTOUCHED; lent::ROOM];
     let mut holes = [lent::UNTOUCHED; lent::ROOM];
     let mut a = [lent::UNTOUCHED; lent::ROOM];
@@ -137,6 +143,8 @@ fn counts_of(size: Size, m: usize, h: usize, lengths: Lengths, tables: Tables) -
         tables::front(&next3, lengths.next3),
         tables::front(&other3, lengths.other3),
         tables::front(&parent, lengths.parent),
+        tables::front(&cells, lengths.cells),
+        tables::front(&borders, lengths.borders),
         &mut depths[..m],
         &mut holes[..h],
         &mut a[..ka],
@@ -196,6 +204,8 @@ fn turns_of(size: Size, lengths: Lengths, tables: Tables) -> Filled
     let next3 = tables.next3;
     let other3 = tables.other3;
     let parent = tables.parent;
+    let cells = tables.cells;
+    let borders = tables.borders;
     let mut right = [lent::UNTOUCHED; lent::ROOM];
     let mut left = [lent::UNTOUCHED; lent::ROOM];
     let mut a = [lent::UNTOUCHED; lent::ROOM];
@@ -210,6 +220,8 @@ fn turns_of(size: Size, lengths: Lengths, tables: Tables) -> Filled
         tables::front(&next3, lengths.next3),
         tables::front(&other3, lengths.other3),
         tables::front(&parent, lengths.parent),
+        tables::front(&cells, lengths.cells),
+        tables::front(&borders, lengths.borders),
         &mut right[..n],
         &mut left[..n],
         &mut a[..ka],
@@ -268,6 +280,8 @@ fn depth_of(size: Size, name: u16, lengths: Lengths, tables: Tables) -> Counted
     let next3 = tables.next3;
     let other3 = tables.other3;
     let parent = tables.parent;
+    let cells = tables.cells;
+    let borders = tables.borders;
     let mut a = [lent::UNTOUCHED; lent::ROOM];
     let mut b = [lent::UNTOUCHED; lent::ROOM];
     let mut c = [lent::UNTOUCHED; lent::ROOM];
@@ -280,6 +294,8 @@ fn depth_of(size: Size, name: u16, lengths: Lengths, tables: Tables) -> Counted
         tables::front(&next3, lengths.next3),
         tables::front(&other3, lengths.other3),
         tables::front(&parent, lengths.parent),
+        tables::front(&cells, lengths.cells),
+        tables::front(&borders, lengths.borders),
         name,
         &mut a[..ka],
         &mut b[..kb],
@@ -314,6 +330,8 @@ fn holes_of(size: Size, name: u16, lengths: Lengths, tables: Tables) -> Counted
     let next3 = tables.next3;
     let other3 = tables.other3;
     let parent = tables.parent;
+    let cells = tables.cells;
+    let borders = tables.borders;
     let mut a = [lent::UNTOUCHED; lent::ROOM];
     let mut b = [lent::UNTOUCHED; lent::ROOM];
     let mut c = [lent::UNTOUCHED; lent::ROOM];
@@ -326,6 +344,8 @@ fn holes_of(size: Size, name: u16, lengths: Lengths, tables: Tables) -> Counted
         tables::front(&next3, lengths.next3),
         tables::front(&other3, lengths.other3),
         tables::front(&parent, lengths.parent),
+        tables::front(&cells, lengths.cells),
+        tables::front(&borders, lengths.borders),
         name,
         &mut a[..ka],
         &mut b[..kb],

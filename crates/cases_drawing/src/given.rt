@@ -15,19 +15,21 @@ fn lengths_of(lengths: &[u16]) -> Lengths
         next3: lent::length(lengths, 2),
         other3: lent::length(lengths, 3),
         parent: lent::length(lengths, 4),
-        a: lent::length(lengths, 7),
-        b: lent::length(lengths, 8),
-        c: lent::length(lengths, 9),
-        d: lent::length(lengths, 10),
+        cells: lent::length(lengths, 5),
+        borders: lent::length(lengths, 6),
+        a: lent::length(lengths, 9),
+        b: lent::length(lengths, 10),
+        c: lent::length(lengths, 11),
+        d: lent::length(lengths, 12),
     }
 }
 
-// Asks of the five tables that stand one after another in a list, after the lengths.
+// Asks of the seven tables that stand one after another in a list, after the lengths.
 pub(crate) fn run(size: Size, name: u16, list: &[u16]) {
     let lengths = lengths_of(list);
-    let depths = lent::length(list, 5);
-    let holes = lent::length(list, 6);
-    let tables = tables::given(list, lent::from(list, 11));
+    let depths = lent::length(list, 7);
+    let holes = lent::length(list, 8);
+    let tables = tables::given(list, lent::from(list, 13));
     asked::check(size, lengths, tables);
     asked::counts(size, true, depths, holes, lengths, tables);
     asked::turns(size, lengths, tables);

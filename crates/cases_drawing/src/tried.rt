@@ -12,7 +12,7 @@ use case_tables::tables::Tables;
 use table_entries::entry;
 ghost use Rattle.case_sheets.specs.Room.{Fits};
 
-// The five tables of a sheet that was drawn, in full or their sums; of a refusal, whether they are as they were.
+// The seven tables of a sheet that was drawn, in full or their sums; of a refusal, whether they are as they were.
 fn show_tables(number: u16, full: bool, lengths: Lengths, tables: Tables) {
     if number == 0 {
         tables::show(lengths, tables, full);
@@ -87,7 +87,7 @@ pub(crate) fn run(kind: u8, values: &[u16]) {
         return;
     }
     if kind == b'L' {
-        draw_lengths(size, lent::from(rest, 9), true, lengths::given(rest));
+        draw_lengths(size, lent::from(rest, 11), true, lengths::given(rest));
         return;
     }
     if kind == b'J' {

@@ -26,6 +26,8 @@ pub(crate) fn join(
     let y = lengths.next3;
     let o = lengths.other3;
     let p = lengths.parent;
+    let n = lengths.cells;
+    let l = lengths.borders;
     let ka = lengths.a;
     let kb = lengths.b;
     let kc = lengths.c;
@@ -35,6 +37,8 @@ pub(crate) fn join(
     let mut next3 = tables.next3;
     let mut other3 = tables.other3;
     let mut parent = tables.parent;
+    let mut cells = tables.cells;
+    let mut borders = tables.borders;
     let mut a = [lent::UNTOUCHED; lent::ROOM];
     let mut b = [lent::UNTOUCHED; lent::ROOM];
     let mut c = [lent::UNTOUCHED; lent::ROOM];
@@ -47,6 +51,8 @@ pub(crate) fn join(
         &mut next3[..y],
         &mut other3[..o],
         &mut parent[..p],
+        &mut cells[..n],
+        &mut borders[..l],
         first,
         second,
         &mut a[..ka],
@@ -62,12 +68,14 @@ pub(crate) fn join(
             next3,
             other3,
             parent,
+            cells,
+            borders,
         },
         works: Works { a, b, c, d },
     }
 }
 
-// Writes what a join answered: its number, of a refusal whether the five tables are as they were, and how the work tables
+// Writes what a join answered: its number, of a refusal whether the seven tables are as they were, and how the work tables
 // are left.
 fn show_answer(lengths: Lengths, before: Tables, joined: Answered) {
     let number = joined.number;

@@ -12,16 +12,16 @@ use case_tables::tables::Tables;
 use table_entries::entry;
 ghost use Rattle.case_sheets.specs.Room.{Fits};
 
-// Joins two names in five tables that a case gives.
+// Joins two names in seven tables that a case gives.
 fn join_given(size: Size, values: &[u16], lengths: Lengths)
     requires { ⌜ Fits lengths ⌝ }
 {
     let list = lent::from(values, 2);
-    let tables = tables::given(list, lent::from(list, 9));
+    let tables = tables::given(list, lent::from(list, 11));
     one::join_all(size, lent::part(values, 0, 2), lengths, tables);
 }
 
-// Joins the names of a case in its drawing, and writes the five tables where they are asked for.
+// Joins the names of a case in its drawing, and writes the seven tables where they are asked for.
 fn join_names(kind: u8, size: Size, names: &[u16], lengths: Lengths, tables: Tables)
     requires { ⌜ Fits lengths ⌝ }
 {

@@ -12,7 +12,7 @@ use Rattle.laws.specs.First.{firstFailed, numbered}
 use Rattle.laws.proofs.First.{Passed, all-passed, passed-append, stopped-append}
 use Rattle.sheet_size.specs.Size.{within}
 use Rattle.paper.specs.Drawing.{Tables, isDrawing}
-use Rattle.paper.specs.Refusal.{Outcome, stated, cleared, outcome, five, sizeTests, givenTests}
+use Rattle.paper.specs.Refusal.{Outcome, stated, cleared, outcome, seven, sizeTests, givenTests}
 use Rattle.answer.specs.declared.Answer.{Answer}
 use Rattle.answer.specs.Answer.{numberOf, told}
 use Rattle.answer.proofs.Outcome.{work-left, work-cleared, outcome-number, outcome-work, told-refused}
@@ -28,14 +28,14 @@ module _ (w h : ℕ) (t : Tables) (ws : List (List ℕ)) where
   given-numbered = refl
 
   -- A check that answered v and left the work tables vs.
-  module _ (v : Answer) (vs : List (List ℕ)) (e : told v (five t) vs ≡ checked w h t ws) where
+  module _ (v : Answer) (vs : List (List ℕ)) (e : told v (seven t) vs ≡ checked w h t ws) where
     pub given-number : numberOf v ≡ firstFailed (givenTests w h t ws)
     unfolding told checked
-    given-number = ap (λ (o : Outcome). o .number) e ∙ outcome-number (firstFailed (givenTests w h t ws)) [] (five t) (five t) ws
+    given-number = ap (λ (o : Outcome). o .number) e ∙ outcome-number (firstFailed (givenTests w h t ws)) [] (seven t) (seven t) ws
 
     pub given-work : vs ≡ work-left (firstFailed (givenTests w h t ws)) ws
     unfolding told checked
-    given-work = ap (λ (o : Outcome). o .work) e ∙ outcome-work (firstFailed (givenTests w h t ws)) [] (five t) (five t) ws
+    given-work = ap (λ (o : Outcome). o .work) e ∙ outcome-work (firstFailed (givenTests w h t ws)) [] (seven t) (seven t) ws
 
     -- it accepts
     module _ (z : numberOf v ≡ 0) where
@@ -70,7 +70,7 @@ module _ (w h : ℕ) (t : Tables) (ws : List (List ℕ)) where
       refused-on = stopped-append 1 6 (lit< tt) (givenTests w h t ws) us given-numbered (λ z. n (given-number ∙ z))
 
       pub refused-stops : (ns : List ℕ) (zs : List (List ℕ))
-          → told v (five t) vs ≡ outcome (firstFailed (givenTests w h t ws ++ us)) ns (five t) zs ws
+          → told v (seven t) vs ≡ outcome (firstFailed (givenTests w h t ws ++ us)) ns (seven t) zs ws
       refused-stops ns zs =
-          told-refused v (firstFailed (givenTests w h t ws ++ us)) (given-number ∙ sym refused-on) n ns (five t) zs ws vs
+          told-refused v (firstFailed (givenTests w h t ws ++ us)) (given-number ∙ sym refused-on) n ns (seven t) zs ws vs
           (given-work ∙ ap (λ k. work-left k ws) (sym refused-on))

@@ -1,20 +1,22 @@
 -- The test of refusal 5, part by part.
---   isDrawing w h t    == the five tables t are the drawing of the labels that their sides of level 1 tell
+--   isDrawing w h t    == the seven tables t are the drawing of the labels that their sides of level 1 tell
 --   linesAgree ..   == next and side of level 1 are those drawn again from these labels
+--   totalsAgree ..  == the totals are those counted again
 --   curvesAgree ..  == level 3 and the parents are those that next and side of level 1 tell
-use mathlib.Core.Path.{_≡_, sym, ap, _∙_}
-use mathlib.Core.Bool.{Bool, true, false, not, _&&_}
+use mathlib.Core.Path.{_≡_, refl, sym, ap, _∙_}
+use mathlib.Core.Bool.{Bool, true, false, not, cond, _&&_}
 use mathlib.Core.List.{List}
 use Prim.Native.Nat.{ℕ, _+_, _*_, _≤_}
 use native.Mathlib.Omega.{arith}
-use lib.ListN.{take}
+use lib.Dec.{eqb}
+use lib.ListN.{take, set}
 use borrow.Author.Tests.{not-true, not-false}
 use Rattle.laws.specs.Equal.{equal}
 use Rattle.laws.specs.Table.{table}
 use Rattle.laws.proofs.Equal.{equal-iff}
 use Rattle.laws.proofs.Test.{and-left, and-right}
 use Rattle.sheet_size.specs.Size.{within}
-use Rattle.point_darts.specs.Dart.{points, slots}
+use Rattle.point_darts.specs.Dart.{mark, points, slots}
 use Rattle.paper.specs.Name.{names}
 use Rattle.paper.specs.Level.{side, tops}
 use Rattle.paper.specs.Enclosure.{parent}
@@ -27,10 +29,20 @@ use Rattle.level_lines.specs.Line.{nexts}
 use Rattle.level_lines.specs.Side.{sides}
 use Rattle.level_kept.specs.Keep.{keeps}
 use Rattle.level_curves.specs.Link.{TwoWay, alongNext, alongOther}
-use Rattle.table_lengths.specs.Given.{tables}
-use Rattle.drawing.specs.Parts.{Lined, Kept, Curved, roundOf, masksOf, linesAgree, curvesAgree}
+use Rattle.region_totals.specs.Tally.{both, Tallied}
+use Rattle.region_totals.proofs.Paper.{tallied-cells, tallied-borders}
+use Rattle.drawing.specs.Parts.{Lined, Kept, Curved, roundOf, masksOf, linesAgree, totalsAgree, curvesAgree}
 use Rattle.region_names.specs.Frame.{surround}
 use Rattle.drawing.proofs.Whole.{line-next, line-side, curve-runs, curve-next, curve-other, parents-whole}
+
+-- the last two of a row of tests
+last-two-no : (a b c : Bool) → (b && c) ≡ false → (a && b && c) ≡ false
+last-two-no true b c e = e
+last-two-no false b c e = refl
+
+last-two-yes : (a b c : Bool) → (b && c) ≡ true → (a && b && c) ≡ a
+last-two-yes true b c e = e
+last-two-yes false b c e = refl
 
 pub names-part : (w h : ℕ) → w * h + 1 ≤ slots w h
 names-part w h = omega (arith, cells-slots w h)
@@ -39,7 +51,8 @@ names-part w h = omega (arith, cells-slots w h)
 module _ (w h : ℕ) (x s : List ℕ) where
   pub lines-is-drawing : (t e r m y u : List ℕ) (b : Bool) → t ≡ e → e ≡ recovered w h s
       → take (surround w h) r ≡ framed w h (names w h t) → Lined w h (take (surround w h) r) m y u
-      → b ≡ (equal x y && equal s u) → (b ≡ linesAgree w h x s) × (take (points w h) m ≡ masksOf w h s)
+      → b ≡ (equal x y && equal s u)
+      → (b ≡ linesAgree w h x s) × (take (points w h) m ≡ masksOf w h s) × (take (surround w h) r ≡ roundOf w h s)
   unfolding linesAgree masksOf roundOf
   lines-is-drawing t e r m y u b p q f l g =
       let k : take (surround w h) r ≡ framed w h (names w h (recovered w h s)) =
@@ -48,7 +61,7 @@ module _ (w h : ℕ) (x s : List ℕ) where
       l .next ∙ ap (λ v. nexts w h (masked w h v)) k in
       let d : u ≡ sides w h (framed w h (names w h (recovered w h s))) (masked w h (framed w h (names w h (recovered w h s)))) =
       l .side ∙ ap (λ v. sides w h v (masked w h v)) k in
-      (g ∙ rw (c, d), l .masks ∙ ap (masked w h) k)
+      (g ∙ rw (c, d), l .masks ∙ ap (masked w h) k, k)
 
 -- Level 3 and the parents, from level 1.
 module _ (w h : ℕ) (x s y o p m a c v u : List ℕ) (g : Kept w h s m a c) (k : Curved w h x (take (points w h) c) v u) where
@@ -58,7 +71,7 @@ module _ (w h : ℕ) (x s y o p m a c v u : List ℕ) (g : Kept w h s m a c) (k 
   kept-points : take (points w h) c ≡ keeps w h m top
   kept-points = g .points ∙ ap (keeps w h m) (g .tops)
 
-  pub curves-no : (t : Bool) → t ≡ (equal y v && equal o u) → not t ≡ true → false ≡ curvesAgree w h (tables x s y o p) m
+  pub curves-no : (t : Bool) → t ≡ (equal y v && equal o u) → not t ≡ true → false ≡ curvesAgree w h x s y o p m
   unfolding curvesAgree
   curves-no t e n =
       let q : t ≡ (equal y (alongNext w h x (keeps w h m top)) && equal o (alongOther w h x (keeps w h m top))) =
@@ -67,12 +80,34 @@ module _ (w h : ℕ) (x s y o p m a c v u : List ℕ) (g : Kept w h s m a c) (k 
 
   pub curves-yes : (t : Bool) → t ≡ (equal y v && equal o u) → not t ≡ false → (r : Bool) (e l : List ℕ) → e ≡ l
       → l ≡ table (w * h + 1) (parent w (on s) (at s) (take (points w h) a)) → r ≡ equal p e
-      → r ≡ curvesAgree w h (tables x s y o p) m
+      → r ≡ curvesAgree w h x s y o p m
   unfolding curvesAgree
   curves-yes t e n r f l i j z =
       let q : t ≡ (equal y (alongNext w h x (keeps w h m top)) && equal o (alongOther w h x (keeps w h m top))) =
       e ∙ rw (k .next, k .other, kept-points) in
       rw (← q, not-false t n) (z ∙ rw (i, j, g .tops))
+
+-- The totals, counted again from the names with the outside round them.
+module _ (w h n : ℕ) (z : n ≡ points w h) (a c b x y : List ℕ)
+    (t : Tallied w (points w h) (take (surround w h) a) (points w h) c b) where
+  module _ (u e : List ℕ) (p : u ≡ e) (q : e ≡ set (table (w * h + 1) (λ r. cond (eqb (both n c r) 0) mark (both n c r))) 0 0) where
+    cells-counted : (s : List ℕ) → take (surround w h) a ≡ roundOf w h s → u ≡ drawn w h (names w h (recovered w h s)) .cells
+    unfolding roundOf
+    cells-counted s f = p ∙ rw z at q ∙ tallied-cells w h (recovered w h s) c b (rw f at t)
+
+    pub cells-no : (b : Bool) → b ≡ equal x u → not b ≡ true → (s : List ℕ) → take (surround w h) a ≡ roundOf w h s
+        → false ≡ totalsAgree w h s x y
+    unfolding totalsAgree
+    cells-no b i j s f = rw (← cells-counted s f, ← i, not-true b j)
+
+    pub cells-yes : (k : Bool) → k ≡ equal x u → not k ≡ false → (v g : List ℕ) → v ≡ g
+        → g ≡ table (w * h + 1) (λ r. cond (eqb (both n c r) 0) mark (both n b r)) → (d : Bool) → d ≡ equal y v
+        → (s : List ℕ) → take (surround w h) a ≡ roundOf w h s → d ≡ totalsAgree w h s x y
+    unfolding totalsAgree roundOf
+    cells-yes k i j v g l m d o s f =
+        let r : v ≡ drawn w h (names w h (recovered w h s)) .borders =
+        l ∙ rw z at m ∙ tallied-borders w h (recovered w h s) c b (rw f at t) in
+        rw (← cells-counted s f, ← r, ← i, not-false k j) o
 
 -- Level 1 agrees with what is drawn from the labels that the sides tell.
 module _ (w h : ℕ) (x s : List ℕ) where
@@ -106,7 +141,7 @@ module _ (w h : ℕ) (x s : List ℕ) where
         g .points ∙ rw (p, g .tops, ← side-is) in
         rw next-is (curve-runs w h n room (names-side-small w h (recovered w h s) room) (take (points w h) c) z)
 
--- Both parts together.
+-- All parts together.
 module _ (w h : ℕ) (t : Tables) (e : within w h ≡ true) where
   abbrev named : List ℕ
   named = names w h (recovered w h (t .side1))
@@ -122,7 +157,7 @@ module _ (w h : ℕ) (t : Tables) (e : within w h ≡ true) where
     side-drawn : t .side1 ≡ drawn w h named .side1
     side-drawn = side-is w h (t .next1) (t .side1) lines
 
-    curves-drawn : curvesAgree w h t (masksOf w h (t .side1))
+    curves-drawn : curvesAgree w h (t .next1) (t .side1) (t .next3) (t .other3) (t .parent) (masksOf w h (t .side1))
         ≡ (equal (t .next3) (drawn w h named .next3) && equal (t .other3) (drawn w h named .other3)
         && equal (t .parent) (drawn w h named .parent))
     unfolding curvesAgree masksOf roundOf
@@ -142,7 +177,35 @@ module _ (w h : ℕ) (t : Tables) (e : within w h ≡ true) where
         ap (λ v. table (w * h + 1) (parent w (on v) (at v) (tops w h (on v)))) side-drawn ∙ parents-whole w h named room small in
         λ l. equal (t .next3) (i l) && equal (t .other3) (j l) && equal (t .parent) (q l)
 
-    pub is-drawing-yes : (r : Bool) (m : List ℕ) → m ≡ masksOf w h (t .side1) → r ≡ curvesAgree w h t m → r ≡ isDrawing w h t
-    unfolding isDrawing same drawing
-    is-drawing-yes r m p q =
-        q ∙ ap (curvesAgree w h t) p ∙ curves-drawn ∙ rw (agreed w h (t .next1) (t .side1) lines)
+    links : Bool
+    links =
+        equal (t .next1) (drawn w h named .next1) && equal (t .side1) (drawn w h named .side1)
+        && equal (t .next3) (drawn w h named .next3)
+        && equal (t .other3) (drawn w h named .other3)
+        && equal (t .parent) (drawn w h named .parent)
+
+    links-are : links
+        ≡ (equal (t .next3) (drawn w h named .next3) && equal (t .other3) (drawn w h named .other3)
+        && equal (t .parent) (drawn w h named .parent))
+    unfolding links
+    links-are = rw (agreed w h (t .next1) (t .side1) lines)
+
+    pub totals-no : (c : Bool) → c ≡ totalsAgree w h (t .side1) (t .cells) (t .borders) → not c ≡ true → false ≡ isDrawing w h t
+    unfolding isDrawing same drawing totalsAgree links
+    totals-no c i j =
+        sym
+        (last-two-no links (equal (t .cells) (drawn w h named .cells)) (equal (t .borders) (drawn w h named .borders))
+        (sym i ∙ not-true c j))
+
+    pub is-drawing-yes : (c : Bool) → c ≡ totalsAgree w h (t .side1) (t .cells) (t .borders) → not c ≡ false → (r : Bool) (m : List ℕ)
+        → m ≡ masksOf w h (t .side1) → r ≡ curvesAgree w h (t .next1) (t .side1) (t .next3) (t .other3) (t .parent) m
+        → r ≡ isDrawing w h t
+    unfolding isDrawing same drawing totalsAgree links
+    is-drawing-yes c i j r m p q =
+        q
+        ∙ ap (curvesAgree w h (t .next1) (t .side1) (t .next3) (t .other3) (t .parent)) p
+        ∙ curves-drawn
+        ∙ sym links-are
+        ∙ sym
+        (last-two-yes links (equal (t .cells) (drawn w h named .cells)) (equal (t .borders) (drawn w h named .borders))
+        (sym i ∙ not-false c j))

@@ -16,10 +16,10 @@ use Rattle.paper.specs.Level.{tops}
 use Rattle.paper.specs.Enclosure.{holes}
 use Rattle.paper.specs.Drawing.{Tables}
 use Rattle.paper.specs.Joining.{on}
-use Rattle.paper.specs.Refusal.{five, cleared}
+use Rattle.paper.specs.Refusal.{seven, cleared}
 use Rattle.answer.specs.declared.Answer.{Answer}
 use Rattle.answer.specs.Answer.{numberOf, told}
-use Rattle.table_lengths.proofs.Tested.{stated-parent, stated-slots}
+use Rattle.table_lengths.proofs.Tested.{stated-names, stated-slots}
 use Rattle.region_depths.specs.Tree.{known, Falls}
 use Rattle.region_depths.specs.Census.{countedAt, counts}
 use Rattle.region_depths.proofs.Fall.{is-drawing-falls}
@@ -32,7 +32,7 @@ use Rattle.count_answer.specs.Count.{Countable, Lent}
 
 -- Tables t, a work table b and others cs were given; the work table is now a, the others ds.
 module _ (w h : ℕ) (t : Tables) (b : List ℕ) (cs : List (List ℕ)) (v : Answer) (a : List ℕ) (ds : List (List ℕ))
-    (e : told v (five t) (a ∷ ds) ≡ checked w h t (b ∷ cs)) where
+    (e : told v (seven t) (a ∷ ds) ≡ checked w h t (b ∷ cs)) where
   module _ (z : numberOf v ≡ 0) where
     size : within w h ≡ true
     size = accepted-within w h t (b ∷ cs) v (a ∷ ds) e z
@@ -41,7 +41,7 @@ module _ (w h : ℕ) (t : Tables) (b : List ℕ) (cs : List (List ℕ)) (v : Ans
     falls = is-drawing-falls w h t size (accepted-is-drawing w h t (b ∷ cs) v (a ∷ ds) e z)
 
     long : length (t .parent) ≡ w * h + 1
-    long = stated-parent w h t (b ∷ cs) (accepted-stated w h t (b ∷ cs) v (a ∷ ds) e z)
+    long = stated-names w h t (b ∷ cs) (accepted-stated w h t (b ∷ cs) v (a ∷ ds) e z) .0
 
     fits : length (t .parent) ≤ mark
     unfolding mark

@@ -14,7 +14,7 @@ use Rattle.laws.proofs.First.{all-passed, failed-below}
 use Rattle.laws.proofs.Test.{and-right}
 use Rattle.sheet_size.specs.Size.{within}
 use Rattle.paper.specs.Drawing.{Tables, isDrawing}
-use Rattle.paper.specs.Refusal.{Outcome, stated, five, sizeTests, givenTests}
+use Rattle.paper.specs.Refusal.{Outcome, stated, seven, sizeTests, givenTests}
 use Rattle.answer.specs.declared.Answer.{Answer}
 use Rattle.answer.specs.Answer.{numberOf, told}
 use Rattle.answer.proofs.Outcome.{work-left, work-cleared, outcome-number, outcome-work, told-early, told-refused, told-done}
@@ -46,35 +46,35 @@ module _ (w h : ℕ) (t : Tables) (k : Bool) (ws : List (List ℕ)) where
 
   -- Judging: the size and the lengths, and then the check.
   module _ (f : Answer) (e : numberOf f ≡ firstFailed (sizeTests w h k)) where
-    pub judge-stopped : numberOf f ≢ 0 → told f (five t) ws ≡ judged w h t k ws
+    pub judge-stopped : numberOf f ≢ 0 → told f (seven t) ws ≡ judged w h t k ws
     unfolding judged fillRefusal sizeTests
     judge-stopped z =
         let s = stopped (within w h) k (stated w h t ws) (isDrawing w h t) (λ q. z (e ∙ q)) in
         told-early f (fillRefusal w h t k ws) (e ∙ s) z
-        (rw (← s) (failed-below 1 5 (sizeTests w h k) (lit< tt) (size-numbered w h k))) [] (five t) (five t) ws
+        (rw (← s) (failed-below 1 5 (sizeTests w h k) (lit< tt) (size-numbered w h k))) [] (seven t) (seven t) ws
 
-    pub judge-checked : numberOf f ≡ 0 → (v : Answer) (vs : List (List ℕ)) → told v (five t) vs ≡ checked w h t ws
-        → told v (five t) vs ≡ judged w h t k ws
+    pub judge-checked : numberOf f ≡ 0 → (v : Answer) (vs : List (List ℕ)) → told v (seven t) vs ≡ checked w h t ws
+        → told v (seven t) vs ≡ judged w h t k ws
     unfolding sizeTests
     judge-checked z v vs c =
         c ∙ sym (judged-check (all-passed 1 5 (lit< tt) (sizeTests w h k) (size-numbered w h k) (sym e ∙ z) .1 .0))
 
   -- A judging of the same lengths that answered v and left the work tables vs.
-  module _ (l : Bool) (same : l ≡ k) (v : Answer) (vs : List (List ℕ)) (e : told v (five t) vs ≡ judged w h t l ws) where
-    answered : told v (five t) vs ≡ judged w h t k ws
+  module _ (l : Bool) (same : l ≡ k) (v : Answer) (vs : List (List ℕ)) (e : told v (seven t) vs ≡ judged w h t l ws) where
+    answered : told v (seven t) vs ≡ judged w h t k ws
     answered = e ∙ ap (λ b. judged w h t b ws) same
 
     number : numberOf v ≡ fillRefusal w h t k ws
     unfolding told judged
-    number = ap (λ (o : Outcome). o .number) answered ∙ outcome-number (fillRefusal w h t k ws) [] (five t) (five t) ws
+    number = ap (λ (o : Outcome). o .number) answered ∙ outcome-number (fillRefusal w h t k ws) [] (seven t) (seven t) ws
 
     work : vs ≡ work-left (fillRefusal w h t k ws) ws
     unfolding told judged
-    work = ap (λ (o : Outcome). o .work) answered ∙ outcome-work (fillRefusal w h t k ws) [] (five t) (five t) ws
+    work = ap (λ (o : Outcome). o .work) answered ∙ outcome-work (fillRefusal w h t k ws) [] (seven t) (seven t) ws
 
-    pub fill-refused : numberOf v ≢ 0 → (ms fs : List (List ℕ)) → told v (five t ++ ms) vs ≡ filled w h t k ms fs ws
+    pub fill-refused : numberOf v ≢ 0 → (ms fs : List (List ℕ)) → told v (seven t ++ ms) vs ≡ filled w h t k ms fs ws
     unfolding filled
-    fill-refused z ms fs = told-refused v (fillRefusal w h t k ws) number z [] (five t ++ ms) (five t ++ fs) ws vs work
+    fill-refused z ms fs = told-refused v (fillRefusal w h t k ws) number z [] (seven t ++ ms) (seven t ++ fs) ws vs work
 
     -- nothing is refused
     module _ (z : numberOf v ≡ 0) where
@@ -85,12 +85,12 @@ module _ (w h : ℕ) (t : Tables) (k : Bool) (ws : List (List ℕ)) where
       pub fill-long : l ≡ true
       fill-long = same ∙ all-long
 
-      pub fill-checked : told v (five t) vs ≡ checked w h t ws
+      pub fill-checked : told v (seven t) vs ≡ checked w h t ws
       fill-checked = answered ∙ judged-check all-long
 
       pub fill-done : (ms fs gs us : List (List ℕ)) → gs ≡ fs → us ≡ vs
-          → told Answer.Done (five t ++ gs) us ≡ filled w h t k ms fs ws
+          → told Answer.Done (seven t ++ gs) us ≡ filled w h t k ms fs ws
       unfolding filled numberOf
       fill-done ms fs gs us p u =
-          told-done Answer.Done (fillRefusal w h t k ws) (sym z ∙ number) refl (five t ++ ms) (five t ++ fs) ws (five t ++ gs) us
+          told-done Answer.Done (fillRefusal w h t k ws) (sym z ∙ number) refl (seven t ++ ms) (seven t ++ fs) ws (seven t ++ gs) us
           (rw p) (u ∙ work ∙ ap (λ r. work-left r ws) (sym number ∙ z) ∙ work-cleared 0 ws (λ q. absurd (q refl)))

@@ -14,17 +14,17 @@ use Rattle.paper.specs.Turns.{curveTurns}
 use Rattle.paper.specs.Enclosure.{depth, holes}
 use Rattle.paper.specs.Drawing.{Tables, isDrawing}
 use Rattle.paper.specs.Joining.{on}
-use Rattle.paper.specs.Refusal.{Outcome, outcome, sized, stated, five, sizeTests}
+use Rattle.paper.specs.Refusal.{Outcome, outcome, sized, stated, seven, sizeTests}
 use Rattle.region_depths.specs.Census.{counts}
 
 unfoldable pub fillRefusal : ℕ → ℕ → Tables → Bool → List (List ℕ) → ℕ
 fillRefusal w h t k ws = firstFailed (sizeTests w h (stated w h t ws && k) ++ (isDrawing w h t, 5) ∷ [])
 
 unfoldable pub judged : ℕ → ℕ → Tables → Bool → List (List ℕ) → Outcome
-judged w h t k ws = outcome (fillRefusal w h t k ws) [] (five t) (five t) ws
+judged w h t k ws = outcome (fillRefusal w h t k ws) [] (seven t) (seven t) ws
 
 unfoldable pub filled : ℕ → ℕ → Tables → Bool → List (List ℕ) → List (List ℕ) → List (List ℕ) → Outcome
-filled w h t k ms fs ws = outcome (fillRefusal w h t k ws) [] (five t ++ ms) (five t ++ fs) ws
+filled w h t k ms fs ws = outcome (fillRefusal w h t k ws) [] (seven t ++ ms) (seven t ++ fs) ws
 
 unfoldable pub tallied : ℕ → ℕ → Tables → List ℕ → List ℕ → List (List ℕ) → Outcome
 tallied w h t ds hs ws =

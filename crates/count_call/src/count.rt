@@ -6,7 +6,7 @@ use count_holes::holes;
 use region_depths::census;
 ghost use mathlib.Core.Path.{_≡_};
 ghost use mathlib.Core.List.{[], _∷_, _++_};
-ghost use Rattle.paper.specs.Refusal.{five, deepened, holed};
+ghost use Rattle.paper.specs.Refusal.{seven, deepened, holed};
 ghost use Rattle.answer.specs.Answer.{told};
 ghost use Rattle.table_lengths.specs.Given.{tables, works};
 ghost use Rattle.count_call.specs.Tally.{tallied};
@@ -22,6 +22,8 @@ pub fn depth(
     next3: &[u16],
     other3: &[u16],
     parent: &[u16],
+    cells: &[u16],
+    borders: &[u16],
     name: u16,
     work_a: &mut [u16],
     work_b: &mut [u16],
@@ -30,11 +32,13 @@ pub fn depth(
 ) -> Count
     ensures { λ r. ⌜
         counted r
-        (five
-        (tables (now (next1 .entry)) (now (side1 .entry)) (now (next3 .entry)) (now (other3 .entry)) (now (parent .entry))))
+        (seven
+        (tables (now (next1 .entry)) (now (side1 .entry)) (now (next3 .entry)) (now (other3 .entry)) (now (parent .entry))
+        (now (cells .entry)) (now (borders .entry))))
         (works (now («work_a» .exit)) (now («work_b» .exit)) (now («work_c» .exit)) (now («work_d» .exit))) ≡
         deepened width height
-        (tables (now (next1 .entry)) (now (side1 .entry)) (now (next3 .entry)) (now (other3 .entry)) (now (parent .entry)))
+        (tables (now (next1 .entry)) (now (side1 .entry)) (now (next3 .entry)) (now (other3 .entry)) (now (parent .entry))
+        (now (cells .entry)) (now (borders .entry)))
         name
         (works (now («work_a» .entry)) (now («work_b» .entry)) (now («work_c» .entry)) (now («work_d» .entry)))
         ⌝ }
@@ -47,6 +51,8 @@ pub fn depth(
         next3,
         other3,
         parent,
+        cells,
+        borders,
         work_a,
         work_b,
         work_c,
@@ -65,6 +71,8 @@ pub fn holes(
     next3: &[u16],
     other3: &[u16],
     parent: &[u16],
+    cells: &[u16],
+    borders: &[u16],
     name: u16,
     work_a: &mut [u16],
     work_b: &mut [u16],
@@ -73,11 +81,13 @@ pub fn holes(
 ) -> Count
     ensures { λ r. ⌜
         counted r
-        (five
-        (tables (now (next1 .entry)) (now (side1 .entry)) (now (next3 .entry)) (now (other3 .entry)) (now (parent .entry))))
+        (seven
+        (tables (now (next1 .entry)) (now (side1 .entry)) (now (next3 .entry)) (now (other3 .entry)) (now (parent .entry))
+        (now (cells .entry)) (now (borders .entry))))
         (works (now («work_a» .exit)) (now («work_b» .exit)) (now («work_c» .exit)) (now («work_d» .exit))) ≡
         holed width height
-        (tables (now (next1 .entry)) (now (side1 .entry)) (now (next3 .entry)) (now (other3 .entry)) (now (parent .entry)))
+        (tables (now (next1 .entry)) (now (side1 .entry)) (now (next3 .entry)) (now (other3 .entry)) (now (parent .entry))
+        (now (cells .entry)) (now (borders .entry)))
         name
         (works (now («work_a» .entry)) (now («work_b» .entry)) (now («work_c» .entry)) (now («work_d» .entry)))
         ⌝ }
@@ -90,6 +100,8 @@ pub fn holes(
         next3,
         other3,
         parent,
+        cells,
+        borders,
         work_a,
         work_b,
         work_c,
@@ -109,6 +121,8 @@ pub fn counts(
     next3: &[u16],
     other3: &[u16],
     parent: &[u16],
+    cells: &[u16],
+    borders: &[u16],
     depths: &mut [u16],
     tally: &mut [u16],
     work_a: &mut [u16],
@@ -118,12 +132,14 @@ pub fn counts(
 ) -> Answer
     ensures { λ r. ⌜
         told r
-        (five
-        (tables (now (next1 .entry)) (now (side1 .entry)) (now (next3 .entry)) (now (other3 .entry)) (now (parent .entry))) ++
+        (seven
+        (tables (now (next1 .entry)) (now (side1 .entry)) (now (next3 .entry)) (now (other3 .entry)) (now (parent .entry))
+        (now (cells .entry)) (now (borders .entry))) ++
         now (depths .exit) ∷ now (tally .exit) ∷ [])
         (works (now («work_a» .exit)) (now («work_b» .exit)) (now («work_c» .exit)) (now («work_d» .exit))) ≡
         tallied width height
-        (tables (now (next1 .entry)) (now (side1 .entry)) (now (next3 .entry)) (now (other3 .entry)) (now (parent .entry)))
+        (tables (now (next1 .entry)) (now (side1 .entry)) (now (next3 .entry)) (now (other3 .entry)) (now (parent .entry))
+        (now (cells .entry)) (now (borders .entry)))
         (now (depths .entry))
         (now (tally .entry))
         (works (now («work_a» .entry)) (now («work_b» .entry)) (now («work_c» .entry)) (now («work_d» .entry)))
@@ -138,6 +154,8 @@ pub fn counts(
         next3,
         other3,
         parent,
+        cells,
+        borders,
         &[depths.len(), tally.len()],
         &by_dart,
         work_a,

@@ -2,7 +2,7 @@
 use answer::Answer;
 use check_call::check;
 ghost use mathlib.Core.Path.{_≡_};
-ghost use Rattle.paper.specs.Refusal.{five};
+ghost use Rattle.paper.specs.Refusal.{seven};
 ghost use Rattle.answer.specs.Answer.{told};
 ghost use Rattle.table_lengths.specs.Given.{tables, works};
 ghost use Rattle.table_lengths.specs.Lengths.{lengths};
@@ -18,6 +18,8 @@ pub(crate) fn judge(
     next3: &[u16],
     other3: &[u16],
     parent: &[u16],
+    cells: &[u16],
+    borders: &[u16],
     by_name: &[usize],
     by_dart: &[usize],
     work_a: &mut [u16],
@@ -27,11 +29,13 @@ pub(crate) fn judge(
 ) -> Answer
     ensures { λ r. ⌜
         told r
-        (five
-        (tables (now (next1 .entry)) (now (side1 .entry)) (now (next3 .entry)) (now (other3 .entry)) (now (parent .entry))))
+        (seven
+        (tables (now (next1 .entry)) (now (side1 .entry)) (now (next3 .entry)) (now (other3 .entry)) (now (parent .entry))
+        (now (cells .entry)) (now (borders .entry))))
         (works (now («work_a» .exit)) (now («work_b» .exit)) (now («work_c» .exit)) (now («work_d» .exit))) ≡
         judged width height
-        (tables (now (next1 .entry)) (now (side1 .entry)) (now (next3 .entry)) (now (other3 .entry)) (now (parent .entry)))
+        (tables (now (next1 .entry)) (now (side1 .entry)) (now (next3 .entry)) (now (other3 .entry)) (now (parent .entry))
+        (now (cells .entry)) (now (borders .entry)))
         (lengths width height (now («by_name» .entry)) (now («by_dart» .entry)))
         (works (now («work_a» .entry)) (now («work_b» .entry)) (now («work_c» .entry)) (now («work_d» .entry)))
         ⌝ }
@@ -48,6 +52,8 @@ pub(crate) fn judge(
         next3,
         other3,
         parent,
+        cells,
+        borders,
         work_a,
         work_b,
         work_c,

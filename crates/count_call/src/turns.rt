@@ -3,7 +3,7 @@ use answer::Answer;
 use count_turns::turns;
 ghost use mathlib.Core.Path.{_≡_};
 ghost use mathlib.Core.List.{[], _∷_, _++_};
-ghost use Rattle.paper.specs.Refusal.{five};
+ghost use Rattle.paper.specs.Refusal.{seven};
 ghost use Rattle.answer.specs.Answer.{told};
 ghost use Rattle.table_lengths.specs.Given.{tables, works};
 ghost use Rattle.count_call.specs.Tally.{traced};
@@ -19,6 +19,8 @@ pub fn turns(
     next3: &[u16],
     other3: &[u16],
     parent: &[u16],
+    cells: &[u16],
+    borders: &[u16],
     right: &mut [u16],
     left: &mut [u16],
     work_a: &mut [u16],
@@ -28,12 +30,14 @@ pub fn turns(
 ) -> Answer
     ensures { λ r. ⌜
         told r
-        (five
-        (tables (now (next1 .entry)) (now (side1 .entry)) (now (next3 .entry)) (now (other3 .entry)) (now (parent .entry))) ++
+        (seven
+        (tables (now (next1 .entry)) (now (side1 .entry)) (now (next3 .entry)) (now (other3 .entry)) (now (parent .entry))
+        (now (cells .entry)) (now (borders .entry))) ++
         now (right .exit) ∷ now (left .exit) ∷ [])
         (works (now («work_a» .exit)) (now («work_b» .exit)) (now («work_c» .exit)) (now («work_d» .exit))) ≡
         traced width height
-        (tables (now (next1 .entry)) (now (side1 .entry)) (now (next3 .entry)) (now (other3 .entry)) (now (parent .entry)))
+        (tables (now (next1 .entry)) (now (side1 .entry)) (now (next3 .entry)) (now (other3 .entry)) (now (parent .entry))
+        (now (cells .entry)) (now (borders .entry)))
         (now (right .entry))
         (now (left .entry))
         (works (now («work_a» .entry)) (now («work_b» .entry)) (now («work_c» .entry)) (now («work_d» .entry)))
@@ -48,6 +52,8 @@ pub fn turns(
         next3,
         other3,
         parent,
+        cells,
+        borders,
         &by_name,
         &[right.len(), left.len()],
         work_a,

@@ -4,7 +4,7 @@
 --   told r ts ws    == the outcome that the answer r tells
 use mathlib.Core.Path.{_≡_, refl, sym, ap, _∙_}
 use mathlib.Core.Bool.{Bool, true}
-use mathlib.Core.List.{List, [], _∷_, map}
+use mathlib.Core.List.{List, [], map}
 use mathlib.Core.Logic.{_≢_}
 use Prim.Native.Nat.{ℕ, _+_, _*_}
 use lib.Dec.{lit<}
@@ -15,12 +15,12 @@ use Rattle.laws.proofs.First.{all-passed, failed-below}
 use Rattle.sheet_size.specs.Size.{within}
 use Rattle.point_darts.specs.Dart.{slots}
 use Rattle.paper.specs.Drawing.{Tables, drawing}
-use Rattle.paper.specs.Refusal.{cleared, five, stated, drawTests, drawRefusal, mapped}
+use Rattle.paper.specs.Refusal.{cleared, seven, stated, drawTests, drawRefusal, mapped}
 use Rattle.answer.specs.declared.Answer.{Answer}
 use Rattle.answer.specs.Answer.{numberOf, told}
 use Rattle.answer.proofs.Outcome.{told-early, told-done}
 use Rattle.table_lengths.specs.Lengths.{lengths}
-use Rattle.table_lengths.proofs.Tested.{Each, each-name, each-dart, by-dart, stated-lengths}
+use Rattle.table_lengths.proofs.Tested.{Each, each-name, each-dart, by-name, by-dart, stated-lengths}
 
 below : (w h n : ℕ) (k : Bool) → numbered 1 5 (drawTests w h n k) ≡ true
 unfolding numbered drawTests
@@ -48,20 +48,20 @@ all-fit w h n ns ds r e z =
 -- A sheet and tables of which this is answered.
 module _ (w h : ℕ) (i : List ℕ) (t : Tables) (ws : List (List ℕ)) (r : Answer)
     (e : numberOf r
-    ≡ firstFailed (drawTests w h (length i) (lengths w h (length (t .parent) ∷ []) (map length (by-dart w h t ws))))) where
+    ≡ firstFailed (drawTests w h (length i) (lengths w h (map length (by-name w h t ws)) (map length (by-dart w h t ws))))) where
   number : numberOf r ≡ drawRefusal w h i t ws
   unfolding drawRefusal
   number = e ∙ ap (λ k. firstFailed (drawTests w h (length i) k)) (stated-lengths w h t ws)
 
-  pub refused : numberOf r ≢ 0 → told r (five t) ws ≡ mapped w h i t ws
+  pub refused : numberOf r ≢ 0 → told r (seven t) ws ≡ mapped w h i t ws
   unfolding mapped drawRefusal
   refused n =
       let k : Bool = stated w h t ws in
       told-early r (drawRefusal w h i t ws) number n
-      (failed-below 1 5 (drawTests w h (length i) k) (lit< tt) (below w h (length i) k)) [] (five t) (five (drawing w h i)) ws
+      (failed-below 1 5 (drawTests w h (length i) k) (lit< tt) (below w h (length i) k)) [] (seven t) (seven (drawing w h i)) ws
 
   pub done : numberOf r ≡ 0 → (u : Tables) (vs : List (List ℕ)) → u ≡ drawing w h i → vs ≡ cleared ws
-      → told Answer.Done (five u) vs ≡ mapped w h i t ws
+      → told Answer.Done (seven u) vs ≡ mapped w h i t ws
   unfolding mapped numberOf
   done z u vs p q =
-      told-done Answer.Done (drawRefusal w h i t ws) (sym z ∙ number) refl (five t) (five (drawing w h i)) ws (five u) vs (ap five p) q
+      told-done Answer.Done (drawRefusal w h i t ws) (sym z ∙ number) refl (seven t) (seven (drawing w h i)) ws (seven u) vs (ap seven p) q

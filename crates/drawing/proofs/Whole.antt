@@ -27,12 +27,12 @@ use Rattle.level_curves.proofs.Paper.{keeps-paper, alongNext-paper, alongOther-
 use Rattle.region_parents.specs.Tops.{Rising}
 use Rattle.region_parents.proofs.Rise.{tops-rising as rising}
 use Rattle.table_lengths.specs.Given.{tables}
-use Rattle.drawing.specs.Parts.{Lined, Kept, Curved}
+use Rattle.drawing.specs.Parts.{Lined, Kept, Curved, Totalled}
 use Rattle.region_names.specs.Frame.{surround}
 
-pub tables-path : (x s y o p : List ℕ) (t : Tables) → x ≡ t .next1 → s ≡ t .side1 → y ≡ t .next3 → o ≡ t .other3
-    → p ≡ t .parent → tables x s y o p ≡ t
-tables-path x s y o p t a b c d e = λ i. tables (a i) (b i) (c i) (d i) (e i)
+pub tables-path : (x s y o p c b : List ℕ) (t : Tables) → x ≡ t .next1 → s ≡ t .side1 → y ≡ t .next3 → o ≡ t .other3
+    → p ≡ t .parent → c ≡ t .cells → b ≡ t .borders → tables x s y o p c b ≡ t
+tables-path x s y o p c b t i j k l m q r = λ z. tables (i z) (j z) (k z) (l z) (m z) (q z) (r z)
 
 module _ (w h : ℕ) (n : List ℕ) where
   -- level 1
@@ -99,14 +99,16 @@ module _ (w h : ℕ) (n : List ℕ) where
       pub runs-whole : TwoWay w (slots w h) x (take (points w h) k)
       runs-whole = rw next-whole (curve-runs (take (points w h) k) kept-whole)
 
-      pub whole : (y o p : List ℕ) → Curved w h x (take (points w h) k) y o
+      pub whole : (y o p u b : List ℕ) → Curved w h x (take (points w h) k) y o
           → p ≡ table (w * h + 1) (parent w (on s) (at s) (take (points w h) t))
-          → tables x s y o p ≡ drawn w h n
-      whole y o p c q =
-          tables-path x s y o p (drawn w h n) next-whole side-whole
+          → u ≡ drawn w h n .cells → b ≡ drawn w h n .borders → tables x s y o p u b ≡ drawn w h n
+      whole y o p u b c q i j =
+          tables-path x s y o p u b (drawn w h n) next-whole side-whole
           (c .next ∙ ap (λ u. alongNext w h u (take (points w h) k)) next-whole ∙ curve-next (take (points w h) k) kept-whole)
           (c .other ∙ ap (λ u. alongOther w h u (take (points w h) k)) next-whole ∙ curve-other (take (points w h) k) kept-whole)
           (q ∙ rw (tops-whole, side-whole) parents-whole)
+          i
+          j
 
 -- A sheet whose cells have these labels.
 module _ (w h : ℕ) (l : List ℕ) (e : within w h ≡ true) (r m x s t k : List ℕ)
@@ -118,11 +120,12 @@ module _ (w h : ℕ) (l : List ℕ) (e : within w h ≡ true) (r m x s t k : Lis
   pub drawing-runs : TwoWay w (slots w h) x (take (points w h) k)
   drawing-runs = runs-whole w h (names w h l) room (names-side-small w h l room) r m x s t k q f g
 
-  pub drawing-whole : (y o p : List ℕ) → Curved w h x (take (points w h) k) y o
-      → p ≡ table (w * h + 1) (parent w (on s) (at s) (take (points w h) t))
-      → tables x s y o p ≡ drawing w h l
+  pub drawing-whole : (y o p u b : List ℕ) → Curved w h x (take (points w h) k) y o
+      → p ≡ table (w * h + 1) (parent w (on s) (at s) (take (points w h) t)) → Totalled w h (take (surround w h) r) u b
+      → tables x s y o p u b ≡ drawing w h l
   unfolding drawing
-  drawing-whole = whole w h (names w h l) room (names-side-small w h l room) r m x s t k q f g
+  drawing-whole y o p u b c i z =
+      whole w h (names w h l) room (names-side-small w h l room) r m x s t k q f g y o p u b c i (z .cells l q) (z .borders l q)
 
 -- no point's top is after the point
 pub tops-rising : (w h : ℕ) (s m t k : List ℕ) → Kept w h s m t k → Rising (take (points w h) t)

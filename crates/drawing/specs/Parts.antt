@@ -2,6 +2,7 @@
 --   Lined ..        == level 1 is drawn from the names f with the outside round them: masks, next and side
 --   Kept ..         == the points that level 3 keeps are found, from the sides of level 1 and its masks: tops and kept points
 --   Curved ..       == level 3 is drawn from level 1 next and the kept points
+--   Totalled ..     == the totals are found, from the names f with the outside round them
 use mathlib.Core.Path.{_≡_}
 use mathlib.Core.Bool.{Bool, _&&_}
 use mathlib.Core.List.{List}
@@ -13,7 +14,7 @@ use Rattle.point_darts.specs.Dart.{points}
 use Rattle.paper.specs.Name.{names}
 use Rattle.paper.specs.Level.{tops}
 use Rattle.paper.specs.Enclosure.{parent}
-use Rattle.paper.specs.Drawing.{Tables, recovered}
+use Rattle.paper.specs.Drawing.{drawn, recovered}
 use Rattle.paper.specs.Joining.{at, on}
 use Rattle.region_names.specs.Frame.{framed}
 use Rattle.level_masks.specs.Mask.{masked}
@@ -35,10 +36,15 @@ pub record Curved (w h : ℕ) (x k y o : List ℕ) : Type 0 where
   pub next : y ≡ alongNext w h x k
   pub other : o ≡ alongOther w h x k
 
+pub record Totalled (w h : ℕ) (f c b : List ℕ) : Type 0 where
+  pub cells : (l : List ℕ) → f ≡ framed w h (names w h l) → c ≡ drawn w h (names w h l) .cells
+  pub borders : (l : List ℕ) → f ≡ framed w h (names w h l) → b ≡ drawn w h (names w h l) .borders
+
 -- The test of refusal 5, part by part: labels are recovered from the sides of level 1, and all is drawn again from them.
 --   roundOf w h s   == the names of these labels, with the outside round them
 --   masksOf w h s   == the masks of the lines of level 1 between them
 --   linesAgree ..   == next and side of level 1 are those drawn again
+--   totalsAgree ..  == the totals are those counted again
 --   curvesAgree ..  == level 3 and the parents are those that next and side of level 1 tell, with the masks m
 unfoldable pub roundOf : ℕ → ℕ → List ℕ → List ℕ
 roundOf w h s = framed w h (names w h (recovered w h s))
@@ -49,9 +55,14 @@ masksOf w h s = masked w h (roundOf w h s)
 unfoldable pub linesAgree : ℕ → ℕ → List ℕ → List ℕ → Bool
 linesAgree w h x s = equal x (nexts w h (masksOf w h s)) && equal s (sides w h (roundOf w h s) (masksOf w h s))
 
-unfoldable pub curvesAgree : ℕ → ℕ → Tables → List ℕ → Bool
-curvesAgree w h t m =
-    let p = tops w h (on (t .side1)) in
-    let k = keeps w h m p in
-    equal (t .next3) (alongNext w h (t .next1) k) && equal (t .other3) (alongOther w h (t .next1) k)
-    && equal (t .parent) (table (w * h + 1) (parent w (on (t .side1)) (at (t .side1)) p))
+unfoldable pub totalsAgree : ℕ → ℕ → List ℕ → List ℕ → List ℕ → Bool
+totalsAgree w h s c b =
+    let n = names w h (recovered w h s) in
+    equal c (drawn w h n .cells) && equal b (drawn w h n .borders)
+
+unfoldable pub curvesAgree : ℕ → ℕ → List ℕ → List ℕ → List ℕ → List ℕ → List ℕ → List ℕ → Bool
+curvesAgree w h x s y o p m =
+    let t = tops w h (on s) in
+    let k = keeps w h m t in
+    equal y (alongNext w h x k) && equal o (alongOther w h x k)
+    && equal p (table (w * h + 1) (parent w (on s) (at s) t))

@@ -4,7 +4,7 @@ use region_names::names;
 use table_entries::entry;
 ghost use mathlib.Core.Path.{_≡_};
 ghost use Rattle.laws.specs.First.{firstFailed};
-ghost use Rattle.paper.specs.Refusal.{five, drawTests, mapped};
+ghost use Rattle.paper.specs.Refusal.{seven, drawTests, mapped};
 ghost use Rattle.answer.specs.Answer.{numberOf, told};
 ghost use Rattle.table_lengths.specs.Given.{tables, works};
 ghost use Rattle.table_lengths.specs.Lengths.{lengths};
@@ -29,7 +29,7 @@ fn refusal(width: u16, height: u16, sheet: usize, by_name: &[usize], by_dart: &[
     Answer::Done
 }
 
-// Draws a sheet: its five tables. Refusals 1, 3 and 4, which leave every table as it was; the work tables come out
+// Draws a sheet: its seven tables. Refusals 1, 3 and 4, which leave every table as it was; the work tables come out
 // cleared when it is done.
 pub fn draw(
     width: u16,
@@ -40,6 +40,8 @@ pub fn draw(
     next3: &mut [u16],
     other3: &mut [u16],
     parent: &mut [u16],
+    cells: &mut [u16],
+    borders: &mut [u16],
     work_a: &mut [u16],
     work_b: &mut [u16],
     work_c: &mut [u16],
@@ -47,11 +49,13 @@ pub fn draw(
 ) -> Answer
     ensures { λ r. ⌜
         told r
-        (five
-        (tables (now (next1 .exit)) (now (side1 .exit)) (now (next3 .exit)) (now (other3 .exit)) (now (parent .exit))))
+        (seven
+        (tables (now (next1 .exit)) (now (side1 .exit)) (now (next3 .exit)) (now (other3 .exit)) (now (parent .exit))
+        (now (cells .exit)) (now (borders .exit))))
         (works (now («work_a» .exit)) (now («work_b» .exit)) (now («work_c» .exit)) (now («work_d» .exit))) ≡
         mapped width height (now (sheet .entry))
-        (tables (now (next1 .entry)) (now (side1 .entry)) (now (next3 .entry)) (now (other3 .entry)) (now (parent .entry)))
+        (tables (now (next1 .entry)) (now (side1 .entry)) (now (next3 .entry)) (now (other3 .entry)) (now (parent .entry))
+        (now (cells .entry)) (now (borders .entry)))
         (works (now («work_a» .entry)) (now («work_b» .entry)) (now («work_c» .entry)) (now («work_d» .entry)))
         ⌝ }
 {
@@ -59,7 +63,7 @@ pub fn draw(
         width,
         height,
         sheet.len(),
-        &[parent.len()],
+        &[parent.len(), cells.len(), borders.len()],
         &[
             next1.len(),
             side1.len(),
@@ -76,6 +80,7 @@ pub fn draw(
     }
     names::name_cells(width, height, sheet, work_a, work_b);
     parts::draw_lines(width, height, work_b, work_a, next1, side1);
+    parts::draw_totals(width, height, work_b, work_c, work_d, cells, borders);
     parts::keep_points(width, height, side1, work_a, work_b, work_c);
     parts::draw_curves(width, height, next1, work_c, next3, other3);
     parts::draw_parents(width, height, side1, work_b, parent);

@@ -1,3 +1,3 @@
-// The whole drawing of a sheet: its five tables, and the parts that they are drawn in.
+// The whole drawing of a sheet: its seven tables, and the parts that they are drawn in.
 pub mod draw;
 pub mod parts;

@@ -6,6 +6,8 @@ use level_masks::mask;
 use level_pieces::points;
 use point_darts::dart;
 use region_parents::parent;
+use region_totals::tally;
+use region_totals::total;
 ghost use mathlib.Core.Path.{_≡_};
 ghost use mathlib.Core.Bool.{true};
 ghost use Prim.Native.Nat.{_+_, _*_};
@@ -16,9 +18,10 @@ ghost use Rattle.point_darts.specs.Dart.{points, slots};
 ghost use Rattle.paper.specs.Enclosure.{parent};
 ghost use Rattle.paper.specs.Joining.{at, on};
 ghost use Rattle.region_names.specs.Frame.{surround};
+ghost use Rattle.region_totals.specs.Tally.{Named};
 ghost use Rattle.level_curves.specs.Link.{TwoWay};
 ghost use Rattle.region_parents.specs.Tops.{Rising};
-ghost use Rattle.drawing.specs.Parts.{Lined, Kept, Curved};
+ghost use Rattle.drawing.specs.Parts.{Lined, Kept, Curved, Totalled};
 
 // Level 1 from these names: the masks of the points at the front of a work table, next and side.
 pub fn draw_lines(
@@ -92,6 +95,33 @@ pub fn draw_curves(
 {
     let n = dart::points(width, height) as usize;
     link::links(width, height, next1, &kept[..n], next3, other3);
+}
+
+// The totals of each name, from the names with the outside round them. Two tables are work.
+pub fn draw_totals(
+    width: u16,
+    height: u16,
+    round: &[u16],
+    a: &mut [u16],
+    b: &mut [u16],
+    cells: &mut [u16],
+    borders: &mut [u16],
+)
+    requires { ⌜
+        (within width height ≡ true) × (length (now round) ≡ slots width height) ×
+        Named (points width height) (take (surround width height) (now round)) ×
+        (length (now a) ≡ slots width height) × (length (now b) ≡ slots width height) ×
+        (length (now cells) ≡ width * height + 1) × (length (now borders) ≡ width * height + 1)
+        ⌝ }
+    ensures { λ _. ⌜
+        Totalled width height (take (surround width height) (now (round .entry))) (now (cells .exit)) (now (borders .exit))
+        ⌝ }
+{
+    let n = dart::points(width, height) as usize;
+    let around = n + width as usize + 2;
+    tally::tally(width, height, &round[..around], a, b);
+    total::cell_totals(n, a, cells);
+    total::border_totals(n, a, b, borders);
 }
 
 // The parents, from the sides of level 1 and the tops of its pieces.

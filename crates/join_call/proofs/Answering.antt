@@ -16,7 +16,7 @@ use Rattle.laws.proofs.Test.{and-left, and-right}
 use Rattle.sheet_size.specs.Size.{within}
 use Rattle.paper.specs.Drawing.{Tables, Drawn}
 use Rattle.paper.specs.Joining.{joined}
-use Rattle.paper.specs.Refusal.{sized, stated, cleared, five, used, adjoin, sizeTests, givenTests, nameTests, joinRefusal, merged}
+use Rattle.paper.specs.Refusal.{sized, stated, cleared, seven, used, adjoin, sizeTests, givenTests, nameTests, joinRefusal, merged}
 use Rattle.paper.specs.Sitting.{Joinable}
 use Rattle.paper_laws.proofs.IsDrawing.{is-drawing-drawn}
 use Rattle.answer.specs.declared.Answer.{Answer}
@@ -59,10 +59,10 @@ or-neither false q e = (refl, e)
 
 -- Joining a and b in the tables t after a check that answered v and left the work tables vs, where the names are answered by o:
 -- what is promised of the tables u and the work tables xs that it leaves with the answer r.
-module _ (w h : ℕ) (t : Tables) (a b : ℕ) (ws vs : List (List ℕ)) (v : Answer) (c : told v (five t) vs ≡ checked w h t ws)
+module _ (w h : ℕ) (t : Tables) (a b : ℕ) (ws vs : List (List ℕ)) (v : Answer) (c : told v (seven t) vs ≡ checked w h t ws)
     (o : Answer) (e : numberOf o ≡ asked v w h (t .side1) (t .parent) a b) where
   abbrev Promised : Answer → Tables → List (List ℕ) → Type 0
-  Promised r u xs = (told r (five u) xs ≡ merged w h t a b ws) × (numberOf r ≡ 0 → Faithful w h t u a b)
+  Promised r u xs = (told r (seven u) xs ≡ merged w h t a b ws) × (numberOf r ≡ 0 → Faithful w h t u a b)
 
   -- the tests of the names, after those of the check
   abbrev tests : List (Bool × ℕ)
@@ -111,7 +111,7 @@ module _ (w h : ℕ) (t : Tables) (a b : ℕ) (ws vs : List (List ℕ)) (v : Ans
   unfolding merged
   asked-stops n =
       let (m, l) = both-asked (eqb (numberOf v) 0) refl in (
-        told-refused o (joinRefusal w h t a b ws) m n [] (five t) (five (joined w h t a b)) ws vs l,
+        told-refused o (joinRefusal w h t a b ws) m n [] (seven t) (seven (joined w h t a b)) ws vs l,
         λ z. absurd (n z),
       )
 
@@ -164,7 +164,7 @@ module _ (w h : ℕ) (t : Tables) (a b : ℕ) (ws vs : List (List ℕ)) (v : Ans
         let m : works c d e f ≡ cleared ws = sym s ∙ work in
         let r : works c d e f ≡ cleared (works c d e f) = m ∙ sym (cleared-twice ws) ∙ ap cleared (sym m) in
         let l : works x y e f ≡ cleared ws = rest-cleared c d e f x y r q ∙ ap cleared m ∙ cleared-twice ws in (
-          told-done Answer.Done (joinRefusal w h t a b ws) (sym z ∙ accepted-asked check-done) refl (five t) (five (joined w h t a b)) ws
-              (five u) (works x y e f) (ap five p) l,
+          told-done Answer.Done (joinRefusal w h t a b ws) (sym z ∙ accepted-asked check-done) refl (seven t) (seven (joined w h t a b)) ws
+              (seven u) (works x y e f) (ap seven p) l,
           λ y. joined-faithful w h t u a b size drawn joinable p,
         )

@@ -10,7 +10,7 @@ use Rattle.laws.specs.Least.{lower}
 use Rattle.point_darts.specs.Dart.{mark, points, slots, reversal}
 use Rattle.paper.specs.Level.{tops, marked}
 use Rattle.paper.specs.Enclosure.{parent, parents}
-use Rattle.paper.specs.Joining.{Links, at, on, shared, removed, rest1, rest3, smoothed, closes, closed, joined}
+use Rattle.paper.specs.Joining.{Links, at, on, shared, removed, rest1, rest3, smoothed, closes, closed, sharedLines, added, joined}
 use Rattle.paper.specs.Refusal.{cleared}
 use Rattle.table_lengths.specs.Given.{tables}
 use Rattle.join_darts.specs.Links.{links}
@@ -24,14 +24,15 @@ module _ (w h : ℕ) (o : ℕ → Bool) (t : List ℕ) (e : t ≡ tops w h o) wh
   unfolding closed
   settle-links l k j f g = g ∙ rw (e, f)
 
--- All steps, from the tables n, s, m, o, p to the tables n₁, s₁, m₁, o₁, p₁; k has the links of level 3 after step 1.
-module _ (w h a b : ℕ) (n s m o p : List ℕ) (u : a < mark) (v : b < mark) (long : length s ≡ slots w h)
-    (sided : (d : ℕ) → on n d ≡ true → on s d ≡ true) (n₁ s₁ m₁ o₁ p₁ : List ℕ) (k : Links)
+-- All steps, from the tables n, s, m, o, p, c, e to the tables n₁, s₁, m₁, o₁, p₁, c₁, e₁; k has the links of level 3 after step 1.
+module _ (w h a b : ℕ) (n s m o p c e : List ℕ) (u : a < mark) (v : b < mark) (long : length s ≡ slots w h)
+    (sided : (d : ℕ) → on n d ≡ true → on s d ≡ true) (n₁ s₁ m₁ o₁ p₁ c₁ e₁ : List ℕ) (k : Links)
     (plain : n₁ ≡ removed w h (links n (table (slots w h) (reversal w))) (shared s (at (table (slots w h) (reversal w))) a b) .next)
     (curves : k ≡ removed w h (links m o) (shared s (at o) a b))
     (settled : links m₁ o₁ ≡ closed w h (on n₁) (smoothed w h k))
     (lowered : s₁ ≡ table (length s) (λ d. cond (on n₁ d) (lower a b (at s d)) mark))
-    (found : p₁ ≡ table (w * h + 1) (parent w (on s₁) (at s₁) (tops w h (on n₁)))) where
+    (found : p₁ ≡ table (w * h + 1) (parent w (on s₁) (at s₁) (tops w h (on n₁))))
+    (totals : (c₁ ≡ added a b 0 c) × (e₁ ≡ added a b (2 * sharedLines w h s a b) e)) where
   sides : s₁ ≡ marked w h (on n₁) (λ d. lower a b (at s d))
   unfolding marked
   sides = lowered ∙ ap (λ z. table z (λ d. cond (on n₁ d) (lower a b (at s d)) mark)) long
@@ -50,9 +51,9 @@ module _ (w h a b : ℕ) (n s m o p : List ℕ) (u : a < mark) (v : b < mark) (l
   unfolding parents
   named = found ∙ ap (λ z. table (w * h + 1) (parent w (on s₁) (at s₁) (tops w h z))) (sym same-lines)
 
-  pub all-steps : tables n₁ s₁ m₁ o₁ p₁ ≡ joined w h (tables n s m o p) a b
+  pub all-steps : tables n₁ s₁ m₁ o₁ p₁ c₁ e₁ ≡ joined w h (tables n s m o p c e) a b
   unfolding joined rest1 rest3
-  all-steps = rw (← plain, ← sides, ← curves, ← settled, ← named)
+  all-steps = rw (← plain, ← sides, ← curves, ← settled, ← named, ← totals .0, ← totals .1)
 
 -- two work tables cleared
 pub pair-cleared : (x y u v : List ℕ) (i j : ℕ) → u ≡ replicate i 0 → v ≡ replicate j 0 → i ≡ length x → j ≡ length y

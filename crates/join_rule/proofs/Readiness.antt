@@ -18,9 +18,12 @@ use Rattle.paper.specs.Sitting.{Joinable}
 use Rattle.paper_laws.proofs.Sheet.{border-below}
 use Rattle.paper_laws.proofs.Marks.{on-marked, cells-slots, within-fits, names-side-small}
 use Rattle.paper_laws.proofs.Still.{still-joined}
+use Rattle.paper_laws.proofs.Neighbour.{used-borne}
+use Rattle.paper_laws.proofs.Added.{totals-fit, totals-here, shared-least}
 use Rattle.table_lengths.specs.Given.{tables, works}
-use Rattle.table_lengths.proofs.Tested.{stated-parent, stated-slots}
+use Rattle.table_lengths.proofs.Tested.{stated-names, stated-slots}
 use Rattle.join_shared.specs.Mapped.{Mapped, Bare}
+use Rattle.join_totals.specs.Sums.{Sums}
 use Rattle.join_rule.specs.Apply.{pair, Ready}
 use Rattle.join_rule.proofs.Fewer.{marked-held, on-below}
 use Rattle.join_rule.proofs.Mapping.{plain-mapped, curves-mapped, curves-bare}
@@ -55,7 +58,25 @@ used-small : (w h : ℕ) (t : Tables) (ws : List (List ℕ)) (a : ℕ) → withi
     → used (t .parent) a ≡ true → a < mark
 unfolding used
 used-small w h t ws a e f u =
-    omega (arith, stated-parent w h t ws f, on-below (t .parent) a u, cells-slots w h, within-fits w h e)
+    omega (arith, stated-names w h t ws f .0, on-below (t .parent) a u, cells-slots w h, within-fits w h e)
+
+-- the sums of what two regions have fit
+drawing-sums : (w h : ℕ) (s : List ℕ) → within w h ≡ true → (a b : ℕ) → Joinable w h (drawing w h s) a b
+    → Sums w h (drawing w h s .side1) (drawing w h s .cells) (drawing w h s .borders) a b
+unfolding drawing
+drawing-sums w h s e a b j =
+    let room = within-fits w h e in
+    let n = names w h s in
+    let (ia, ua) = used-borne w h s room a b j a (j .regions .0) in
+    let (ib, ub) = used-borne w h s room a b j b (j .regions .1) in
+    let (ca, cb, da, db) = totals-here a b (j .apart) (j .inner .0) (j .inner .1) w h n room ia ib ua ub in
+    let fa = totals-fit w h n a e in
+    let fb = totals-fit w h n b e in
+    record {
+      cells = omega (arith, ca, cb, fa .0, fb .0);
+      borders = omega (arith, da, db, fa .1, fb .1);
+      less = omega (arith, da, db, shared-least a b (j .apart) (j .inner .0) (j .inner .1) w h n room ia ib ua ub);
+    }
 
 pub drawn-ready : (w h : ℕ) (t : Tables) (ws : List (List ℕ)) (a b : ℕ) → within w h ≡ true → stated w h t ws ≡ true
     → Drawn w h t → Joinable w h t a b → Ready w h t ws a b
@@ -71,15 +92,16 @@ drawn-ready w h t ws a b e f g j =
       curves = rw (← (g .same)) (drawing-curves w h (g .labels) e);
       bare = rw (← (g .same)) (drawing-bare w h (g .labels) e);
       still = rw (← (g .same)) (still-joined w h (g .labels) (within-fits w h e) a b (rw (g .same) j));
+      sums = rw (← (g .same)) (drawing-sums w h (g .labels) e a b (rw (g .same) j));
     }
 
 -- Two work tables, the first of four.
-pub ready-pair : (w h : ℕ) (x s y o p a b c d : List ℕ) (i j : ℕ) → Ready w h (tables x s y o p) (works a b c d) i j
-    → Ready w h (tables x s y o p) (pair a b) i j
+pub ready-pair : (w h : ℕ) (x s y o p u v a b c d : List ℕ) (i j : ℕ) → Ready w h (tables x s y o p u v) (works a b c d) i j
+    → Ready w h (tables x s y o p u v) (pair a b) i j
 unfolding stated sized
-ready-pair w h x s y o p a b c d i j r =
-    let names : Bool = sized (w * h + 1) (p ∷ []) in
-    let z = stated-slots w h (tables x s y o p) (works a b c d) (r .sizes) in
+ready-pair w h x s y o p u v a b c d i j r =
+    let names : Bool = sized (w * h + 1) (p ∷ u ∷ v ∷ []) in
+    let z = stated-slots w h (tables x s y o p u v) (works a b c d) (r .sizes) in
     let work = z .1 .1 .1 .1 in
     record {
       size = r .size;
@@ -96,4 +118,5 @@ ready-pair w h x s y o p a b c d i j r =
       curves = r .curves;
       bare = r .bare;
       still = r .still;
+      sums = r .sums;
     }

@@ -4,7 +4,8 @@
 --                      every point that step 4 is to treat after it, where the lines o remain
 --   Ready w h t ws a b == the size is one, the tables t and the work tables ws have the stated lengths, a and b may be
 --                      names, every dart that has a next has a side, the links of both levels are those of maps, at level 3
---                      a dart that has no next has no other, and steps 3 and 4 change nothing away from removed curves
+--                      a dart that has no next has no other, steps 3 and 4 change nothing away from removed curves, and the
+--                      sums of the totals fit
 use mathlib.Core.Path.{_≡_}
 use mathlib.Core.Bool.{Bool, true}
 use mathlib.Core.List.{List, [], _∷_}
@@ -19,6 +20,7 @@ use Rattle.paper.specs.Refusal.{stated}
 use Rattle.paper.specs.Sitting.{Still}
 use Rattle.join_darts.specs.Visited.{Visited}
 use Rattle.join_shared.specs.Mapped.{Mapped, Bare}
+use Rattle.join_totals.specs.Sums.{Sums}
 
 abbrev pub pair : List ℕ → List ℕ → List (List ℕ)
 pair x y = x ∷ y ∷ []
@@ -37,3 +39,4 @@ pub record Ready (w h : ℕ) (t : Tables) (ws : List (List ℕ)) (a b : ℕ) : T
   pub curves : Mapped (t .side1) (t .next3) (t .other3)
   pub bare : Bare (t .next3) (t .other3)
   pub still : Still w h t a b
+  pub sums : Sums w h (t .side1) (t .cells) (t .borders) a b

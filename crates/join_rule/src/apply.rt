@@ -3,6 +3,7 @@ use join_darts::list;
 use join_lower::side;
 use join_shared::shared;
 use join_smooth::smooth;
+use join_totals::total;
 use level_pieces::points;
 use point_darts::dart;
 use point_rules::turn;
@@ -117,7 +118,7 @@ fn settle(
     parent::find_parents(width, height, side, top, parents);
 }
 
-// Joining of the regions a and b by the removal rule, in the five tables of a drawing. Back and list are work tables, which
+// Joining of the regions a and b by the removal rule, in the seven tables of a drawing. Back and list are work tables, which
 // are left with every entry 0.
 pub fn apply(
     width: u16,
@@ -129,26 +130,30 @@ pub fn apply(
     next3: &mut [u16],
     other3: &mut [u16],
     parent: &mut [u16],
+    cells: &mut [u16],
+    borders: &mut [u16],
     back: &mut [u16],
     list: &mut [u16],
 )
     requires { ⌜
-        Ready width height (tables (now next1) (now side1) (now next3) (now other3) (now parent))
+        Ready width height (tables (now next1) (now side1) (now next3) (now other3) (now parent) (now cells) (now borders))
         (pair (now back) (now list))
         a
         b
         ⌝ }
     ensures { λ _. ⌜
-        (tables (now (next1 .exit)) (now (side1 .exit)) (now (next3 .exit)) (now (other3 .exit)) (now (parent .exit)) ≡
+        (tables (now (next1 .exit)) (now (side1 .exit)) (now (next3 .exit)) (now (other3 .exit)) (now (parent .exit))
+        (now (cells .exit)) (now (borders .exit)) ≡
         joined width height
         (tables (now (next1 .entry)) (now (side1 .entry)) (now (next3 .entry)) (now (other3 .entry))
-        (now (parent .entry)))
+        (now (parent .entry)) (now (cells .entry)) (now (borders .entry)))
         a
         b) ×
         (pair (now (back .exit)) (now (list .exit)) ≡ cleared (pair (now (back .entry)) (now (list .entry))))
         ⌝ }
 {
     let first = list::list_darts(side1, a, b, list);
+    total::add_totals(width, height, side1, a, b, first, list, cells, borders);
     shared::remove_plain_shared(width, height, side1, a, b, first, list, next1, back);
     let first3 = list::narrow(next3, first, list);
     shared::remove_shared(width, height, side1, a, b, first3, list, next3, other3);

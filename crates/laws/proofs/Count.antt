@@ -4,6 +4,7 @@
 --   count-single    == where exactly one number passes, the count is 1
 --   count-less      == where one number that passes is left out, the count is 1 less
 --   Into n m F G f g == f leads from the numbers below n that pass F to numbers below m that pass G, and g leads back
+--   count-sums      == two counts add up to two others where, number by number, the tests do
 --   count-matched   == two counts are equal where two maps lead from each to the other and back
 use mathlib.Core.Path.{_≡_, refl, sym, ap, _∙_}
 use mathlib.Core.Bool.{Bool, true, false, not, _&&_, and-true, and-false}
@@ -61,8 +62,14 @@ count-product a (suc b) f r c e =
       add-mul (number (r b)) (count b r) (count a c),
     ) (omega arith)
 
+pub count-sums : (f g p q : ℕ → Bool) (n : ℕ)
+    → ((i : ℕ) → i < n → number (f i) + number (g i) ≡ number (p i) + number (q i)) → count n f + count n g ≡ count n p + count n q
+unfolding count
+count-sums f g p q zero e = refl
+count-sums f g p q (suc n) e = omega (arith, e n (omega arith), count-sums f g p q n (λ i l. e i (omega arith)))
+
 -- where none passes
-count-nothing : (f : ℕ → Bool) (n : ℕ) → ((i : ℕ) → i < n → f i ≡ false) → count n f ≡ 0
+pub count-nothing : (f : ℕ → Bool) (n : ℕ) → ((i : ℕ) → i < n → f i ≡ false) → count n f ≡ 0
 count-nothing f n e = count-agree f (λ i. false) n e ∙ count-none n
 
 -- One of the numbers that pass, and the test of all others.
@@ -96,6 +103,10 @@ module _ (f : ℕ → Bool) (k : ℕ) (pass : f k ≡ true) where
       go : (i : ℕ) (t : Bool) → f i ≡ t → (f i ≡ true → i ≡ k) → but i ≡ false
       go i true e u = ap but (u e) ∙ but-own
       go i false e u = rw e
+
+-- where one passes, some do
+pub count-some : (f : ℕ → Bool) (n k : ℕ) → k < n → f k ≡ true → count n f ≢ 0
+count-some f n k l e z = omega (arith, count-less f k e n l)
 
 -- f leads from the numbers below n that pass F to numbers below m that pass G, and g leads back
 abbrev pub Into : ℕ → ℕ → (ℕ → Bool) → (ℕ → Bool) → (ℕ → ℕ) → (ℕ → ℕ) → Type 0

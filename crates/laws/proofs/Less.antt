@@ -32,7 +32,7 @@ abbrev pub left : Map → (ℕ → ℕ) → ℕ → Bool
 left m f d = not (taken m f d)
 
 -- equality of numbers is tested either way round
-eqb-comm : (a b : ℕ) → eqb a b ≡ eqb b a
+pub eqb-comm : (a b : ℕ) → eqb a b ≡ eqb b a
 eqb-comm a b = go (ℕ-discrete a b)
   where
     go : Dec (a ≡ b) → eqb a b ≡ eqb b a

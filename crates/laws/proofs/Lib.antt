@@ -5,6 +5,7 @@ pub mod Cases
 pub mod Chart
 pub mod Column
 pub mod Count
+pub mod Cross
 pub mod Curve
 pub mod Equal
 pub mod Even

@@ -29,13 +29,15 @@ const SLOTS: usize = 4 * (WIDEST + 1) * (TALLEST + 1);
 // The bytes of the longest deck, which has two cards a row, and one more, so that bytes after its last card are seen.
 const BYTES: usize = LONG * (2 * TALLEST + 1) + 1;
 
-// The five tables of a drawing, each with room for the largest.
+// The seven tables of a drawing, each with room for the largest.
 struct Tables {
     next1: [u16; SLOTS],
     side1: [u16; SLOTS],
     next3: [u16; SLOTS],
     other3: [u16; SLOTS],
     parent: [u16; SLOTS],
+    cells: [u16; SLOTS],
+    borders: [u16; SLOTS],
 }
 
 // What the counts answered: the refusal's number, depth and hole count of each name.
@@ -60,6 +62,8 @@ fn draw(width: u16, height: u16, sheet: &[u16], slots: usize, names: usize) -> T
     let mut next3 = [0u16; SLOTS];
     let mut other3 = [0u16; SLOTS];
     let mut parent = [0u16; SLOTS];
+    let mut cells = [0u16; SLOTS];
+    let mut borders = [0u16; SLOTS];
     let mut a = [0u16; SLOTS];
     let mut b = [0u16; SLOTS];
     let mut c = [0u16; SLOTS];
@@ -73,6 +77,8 @@ fn draw(width: u16, height: u16, sheet: &[u16], slots: usize, names: usize) -> T
         &mut next3[..slots],
         &mut other3[..slots],
         &mut parent[..names],
+        &mut cells[..names],
+        &mut borders[..names],
         &mut a[..slots],
         &mut b[..slots],
         &mut c[..slots],
@@ -84,6 +90,8 @@ fn draw(width: u16, height: u16, sheet: &[u16], slots: usize, names: usize) -> T
         next3,
         other3,
         parent,
+        cells,
+        borders,
     }
 }
 
@@ -105,6 +113,8 @@ fn count(width: u16, height: u16, slots: usize, names: usize, tables: Tables) ->
     let next3 = tables.next3;
     let other3 = tables.other3;
     let parent = tables.parent;
+    let cells = tables.cells;
+    let borders = tables.borders;
     let mut depths = [0u16; SLOTS];
     let mut holes = [0u16; SLOTS];
     let mut a = [0u16; SLOTS];
@@ -119,6 +129,8 @@ fn count(width: u16, height: u16, slots: usize, names: usize, tables: Tables) ->
         front(&next3, slots),
         front(&other3, slots),
         front(&parent, names),
+        front(&cells, names),
+        front(&borders, names),
         &mut depths[..names],
         &mut holes[..names],
         &mut a[..slots],

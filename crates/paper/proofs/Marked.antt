@@ -7,7 +7,7 @@
 --   holes-of w h s rs == how many holes some regions of a sheet have
 --   turns-of w h s ds == the right turns of some darts of a sheet at level 3, then their left turns
 --   accepted w h t  == 1 where the tables t are a drawing, else 0
---   spoilt w h t    == the same of the tables t with one entry changed, in each of the five in turn
+--   spoilt w h t    == the same of the tables t with one entry changed, in each of the seven in turn
 --   hanging w h l   == the points that have exactly one line of the links l
 --   Join            == a sheet of a size, and two of its regions
 use mathlib.Core.Path.{_≡_, refl}
@@ -122,11 +122,15 @@ spoilt w h t =
     let m = t .next3 in
     let o = t .other3 in
     let p = t .parent in
-    accepted w h (record { next1 = set n 4 5; side1 = s; next3 = m; other3 = o; parent = p })
-    ++ accepted w h (record { next1 = n; side1 = set s 4 5; next3 = m; other3 = o; parent = p })
-    ++ accepted w h (record { next1 = n; side1 = s; next3 = set m 4 5; other3 = o; parent = p })
-    ++ accepted w h (record { next1 = n; side1 = s; next3 = m; other3 = set o 4 5; parent = p })
-    ++ accepted w h (record { next1 = n; side1 = s; next3 = m; other3 = o; parent = set p 2 1 })
+    let c = t .cells in
+    let b = t .borders in
+    accepted w h (record { next1 = set n 4 5; side1 = s; next3 = m; other3 = o; parent = p; cells = c; borders = b })
+    ++ accepted w h (record { next1 = n; side1 = set s 4 5; next3 = m; other3 = o; parent = p; cells = c; borders = b })
+    ++ accepted w h (record { next1 = n; side1 = s; next3 = set m 4 5; other3 = o; parent = p; cells = c; borders = b })
+    ++ accepted w h (record { next1 = n; side1 = s; next3 = m; other3 = set o 4 5; parent = p; cells = c; borders = b })
+    ++ accepted w h (record { next1 = n; side1 = s; next3 = m; other3 = o; parent = set p 2 1; cells = c; borders = b })
+    ++ accepted w h (record { next1 = n; side1 = s; next3 = m; other3 = o; parent = p; cells = set c 2 2; borders = b })
+    ++ accepted w h (record { next1 = n; side1 = s; next3 = m; other3 = o; parent = p; cells = c; borders = set b 2 2 })
 
 claims : List Claim
 claims =
@@ -190,7 +194,7 @@ beside-claims =
     ∷ record { computed = accepted 2 2 (drawing 2 2 p7); stated = 1 ∷ [] }
     ∷ record { computed = accepted 3 1 (joined 3 1 (drawing 3 1 row) 1 2); stated = 1 ∷ [] }
     ∷ record { computed = accepted 2 1 (drawing 2 2 p7); stated = 0 ∷ [] }
-    ∷ record { computed = spoilt 2 1 (drawing 2 1 p2); stated = 0 ∷ 0 ∷ 0 ∷ 0 ∷ 0 ∷ [] }
+    ∷ record { computed = spoilt 2 1 (drawing 2 1 p2); stated = 0 ∷ 0 ∷ 0 ∷ 0 ∷ 0 ∷ 0 ∷ 0 ∷ [] }
     -- depth and hole count of the outside, of a ring and of what the ring encloses
     ∷ record { computed = map (depth ((drawing 3 3 p5) .parent)) (0 ∷ 1 ∷ 5 ∷ []); stated = 0 ∷ 1 ∷ 2 ∷ [] }
     ∷ record { computed = holes-of 3 3 p5 (0 ∷ 1 ∷ 5 ∷ []); stated = 1 ∷ 1 ∷ 0 ∷ [] }
@@ -212,6 +216,14 @@ beside-claims =
       computed = ones 2 1 (curveTurns 2 1 (border 2 1 (names 2 1 p2)) isRight);
       stated = 4 ∷ 5 ∷ 6 ∷ 16 ∷ 18 ∷ 19 ∷ [];
     }
+    -- totals: the outside has no cells and 2 (w + h) border lines, a name that is not in use the mark; cells are added, and borders less
+    -- twice the lines that the two share, one or two; a third region keeps its own
+    ∷ record { computed = (drawing 3 3 p5) .cells; stated = 0 ∷ 8 ∷ mark ∷ mark ∷ mark ∷ 1 ∷ mark ∷ mark ∷ mark ∷ mark ∷ [] }
+    ∷ record { computed = (drawing 3 3 p5) .borders; stated = 12 ∷ 16 ∷ mark ∷ mark ∷ mark ∷ 4 ∷ mark ∷ mark ∷ mark ∷ mark ∷ [] }
+    ∷ record { computed = (joined 3 1 (drawing 3 1 row) 1 2) .cells; stated = 0 ∷ 2 ∷ mark ∷ 1 ∷ [] }
+    ∷ record { computed = (joined 3 1 (drawing 3 1 row) 1 2) .borders; stated = 8 ∷ 6 ∷ mark ∷ 4 ∷ [] }
+    ∷ record { computed = (joined 2 2 (drawing 2 2 halves) 2 1) .cells; stated = 0 ∷ 4 ∷ mark ∷ mark ∷ mark ∷ [] }
+    ∷ record { computed = (joined 2 2 (drawing 2 2 halves) 2 1) .borders; stated = 8 ∷ 8 ∷ mark ∷ mark ∷ mark ∷ [] }
     -- the limits of width and height
     ∷ record { computed = map (λ n. number (within n 1)) (0 ∷ 1 ∷ 110 ∷ 111 ∷ []); stated = 0 ∷ 1 ∷ 1 ∷ 0 ∷ [] }
     ∷ record { computed = map (λ n. number (within 1 n)) (0 ∷ 1 ∷ 72 ∷ 73 ∷ []); stated = 0 ∷ 1 ∷ 1 ∷ 0 ∷ [] }

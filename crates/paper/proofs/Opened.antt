@@ -13,12 +13,13 @@ use Rattle.paper.specs.Level.{side, border, mask, next, plain, last, alo
 use Rattle.paper.specs.Level.{level, marked}
 use Rattle.paper.specs.Turns.{taken, turns, curveTurns}
 use Rattle.paper.specs.Enclosure.{topSide, parent, parents, above, depth, hole, holes}
+use Rattle.paper.specs.Total.{cellsOf, bordersOf, total, totals}
 use Rattle.paper.specs.Contour.{reached, contour, outermost, innerContours}
 use Rattle.paper.specs.Drawing.{drawn, drawing, fresh, recover, recovered, same, isDrawing}
 use Rattle.paper.specs.Joining.{at, on, between, shared, chase, removed, rest1, rest3, low, high, spliced}
-use Rattle.paper.specs.Joining.{smooth, smooths, smoothed, moved, close, closes, closed, joined}
+use Rattle.paper.specs.Joining.{smooth, smooths, smoothed, moved, close, closes, closed, sharedLines, added, joined}
 use Rattle.paper.specs.Refusal.{sized, cleared, outcome, levelTests, levelRefusal, levelTables, levelled}
-use Rattle.paper.specs.Refusal.{five, stated, drawTests, drawRefusal, mapped, sizeTests, givenTests, used, adjoin, nameTests}
+use Rattle.paper.specs.Refusal.{seven, stated, drawTests, drawRefusal, mapped, sizeTests, givenTests, used, adjoin, nameTests}
 use Rattle.paper.specs.Refusal.{joinRefusal, merged, countRefusal, deepened, holed}
 use Rattle.laws.proofs.Cases.{failed}
 
@@ -50,12 +51,16 @@ drawings-open : Unit {0}
 unfolding level marked topSide parent parents above depth hole holes drawn drawing fresh recover recovered equal same isDrawing
 drawings-open = tt
 
+totals-open : Unit {0}
+unfolding cellsOf bordersOf total totals sharedLines added
+totals-open = tt
+
 joins-open : Unit {0}
 unfolding at on between shared chase removed rest1 rest3 low high spliced smooth smooths smoothed moved close closes closed joined
 joins-open = tt
 
 refusals-open : Unit {0}
-unfolding sized cleared outcome levelTests levelRefusal levelTables levelled five stated drawTests drawRefusal mapped sizeTests
+unfolding sized cleared outcome levelTests levelRefusal levelTables levelled seven stated drawTests drawRefusal mapped sizeTests
 refusals-open = tt
 
 names-open : Unit {0}
@@ -63,5 +68,6 @@ unfolding givenTests used adjoin nameTests joinRefusal merged countRefusal deepe
 names-open = tt
 
 unfoldable pub opened : Unit {0}
-unfolding laws-open points-open turns-open masks-open levels-open contours-open drawings-open joins-open refusals-open names-open failed
+unfolding laws-open points-open turns-open masks-open levels-open contours-open drawings-open totals-open joins-open refusals-open
+    names-open failed
 opened = tt

@@ -15,7 +15,7 @@ use Rattle.laws.proofs.Cases.{Case, failed, none-failed}
 use Rattle.laws.proofs.Equal.{equal-true}
 use Rattle.laws.proofs.Test.{and-left, and-right}
 use Rattle.paper.specs.Drawing.{Tables, drawing}
-use Rattle.paper.specs.Refusal.{Outcome, ended, five, levelled, mapped, merged, deepened, holed}
+use Rattle.paper.specs.Refusal.{Outcome, ended, seven, levelled, mapped, merged, deepened, holed}
 use Rattle.paper.proofs.Opened.{opened}
 
 unfoldable pub same-tables : List (List ℕ) → List (List ℕ) → Bool
@@ -75,7 +75,16 @@ unfoldable pub anchored : ℕ → ℕ → ℕ → List ℕ
 anchored n x y = x ∷ y ∷ replicate n none
 
 unfoldable pub one : Tables
-one = record { next1 = next-1; side1 = side-1; next3 = anchored 14 0 1; other3 = anchored 14 1 0; parent = none ∷ 0 ∷ [] }
+one =
+    record {
+      next1 = next-1;
+      side1 = side-1;
+      next3 = anchored 14 0 1;
+      other3 = anchored 14 1 0;
+      parent = none ∷ 0 ∷ [];
+      cells = 0 ∷ 1 ∷ [];
+      borders = 4 ∷ 4 ∷ [];
+    }
 
 two : Tables
 two = drawing 2 1 (7 ∷ 9 ∷ [])
@@ -90,15 +99,25 @@ joined-two =
       next3 = anchored 22 0 1;
       other3 = anchored 22 1 0;
       parent = none ∷ 0 ∷ none ∷ [];
+      cells = 0 ∷ 2 ∷ none ∷ [];
+      borders = 6 ∷ 6 ∷ none ∷ [];
     }
 
 four : Tables
 four = drawing 2 2 (65 ∷ 66 ∷ 66 ∷ 65 ∷ [])
 
--- five tables of P1's size that are no drawing, the last with n entries: 2 are the stated length
+-- seven tables of P1's size that are no drawing, the last with n entries: 2 are the stated length
 unfoldable pub rubbish : ℕ → Tables
 rubbish n =
-    record { next1 = replicate 16 1; side1 = replicate 16 2; next3 = replicate 16 3; other3 = replicate 16 4; parent = replicate n 5 }
+    record {
+      next1 = replicate 16 1;
+      side1 = replicate 16 2;
+      next3 = replicate 16 3;
+      other3 = replicate 16 4;
+      parent = replicate 2 5;
+      cells = replicate 2 6;
+      borders = replicate n 7;
+    }
 
 -- three tables of P1's size, the second with n entries: 16 are the stated length
 lent : ℕ → List (List ℕ)
@@ -129,39 +148,39 @@ calls =
       stated = ended 0 [] (anchored 14 0 1 ∷ anchored 14 1 0 ∷ anchored 14 1 0 ∷ []) (clean 16);
     }
     -- whole drawing
-    ∷ record { computed = mapped 111 1 [] (rubbish 3) (works 16 17); stated = refused 1 (five (rubbish 3)) (works 16 17) }
-    ∷ record { computed = mapped 1 1 [] (rubbish 3) (works 16 17); stated = refused 3 (five (rubbish 3)) (works 16 17) }
-    ∷ record { computed = mapped 1 1 (65 ∷ []) (rubbish 3) (works 16 16); stated = refused 4 (five (rubbish 3)) (works 16 16) }
-    ∷ record { computed = mapped 1 1 (65 ∷ []) (rubbish 2) (works 16 17); stated = refused 4 (five (rubbish 2)) (works 16 17) }
-    ∷ record { computed = mapped 1 1 (65 ∷ []) (rubbish 2) (works 16 16); stated = ended 0 [] (five one) (clean 16) }
+    ∷ record { computed = mapped 111 1 [] (rubbish 3) (works 16 17); stated = refused 1 (seven (rubbish 3)) (works 16 17) }
+    ∷ record { computed = mapped 1 1 [] (rubbish 3) (works 16 17); stated = refused 3 (seven (rubbish 3)) (works 16 17) }
+    ∷ record { computed = mapped 1 1 (65 ∷ []) (rubbish 3) (works 16 16); stated = refused 4 (seven (rubbish 3)) (works 16 16) }
+    ∷ record { computed = mapped 1 1 (65 ∷ []) (rubbish 2) (works 16 17); stated = refused 4 (seven (rubbish 2)) (works 16 17) }
+    ∷ record { computed = mapped 1 1 (65 ∷ []) (rubbish 2) (works 16 16); stated = ended 0 [] (seven one) (clean 16) }
     -- joining
-    ∷ record { computed = merged 1 0 (rubbish 3) 0 0 (works 16 17); stated = refused 1 (five (rubbish 3)) (works 16 17) }
-    ∷ record { computed = merged 1 1 (rubbish 3) 0 0 (works 16 16); stated = refused 4 (five (rubbish 3)) (works 16 16) }
-    ∷ record { computed = merged 1 1 (rubbish 2) 0 0 (works 16 17); stated = refused 4 (five (rubbish 2)) (works 16 17) }
-    ∷ record { computed = merged 1 1 (rubbish 2) 0 0 (works 16 16); stated = refused 5 (five (rubbish 2)) (clean 16) }
-    ∷ record { computed = merged 2 1 two 0 0 (works 24 24); stated = refused 6 (five two) (clean 24) }
-    ∷ record { computed = merged 2 1 two 3 0 (works 24 24); stated = refused 6 (five two) (clean 24) }
-    ∷ record { computed = merged 2 1 two 3 3 (works 24 24); stated = refused 7 (five two) (clean 24) }
-    ∷ record { computed = merged 2 1 two 1 3 (works 24 24); stated = refused 8 (five two) (clean 24) }
-    ∷ record { computed = merged 2 1 two 3 1 (works 24 24); stated = refused 8 (five two) (clean 24) }
-    ∷ record { computed = merged 2 2 four 1 4 (works 36 36); stated = refused 9 (five four) (clean 36) }
-    ∷ record { computed = merged 2 1 two 1 2 (works 24 24); stated = ended 0 [] (five joined-two) (clean 24) }
-    ∷ record { computed = merged 2 1 two 2 1 (works 24 24); stated = ended 0 [] (five joined-two) (clean 24) }
+    ∷ record { computed = merged 1 0 (rubbish 3) 0 0 (works 16 17); stated = refused 1 (seven (rubbish 3)) (works 16 17) }
+    ∷ record { computed = merged 1 1 (rubbish 3) 0 0 (works 16 16); stated = refused 4 (seven (rubbish 3)) (works 16 16) }
+    ∷ record { computed = merged 1 1 (rubbish 2) 0 0 (works 16 17); stated = refused 4 (seven (rubbish 2)) (works 16 17) }
+    ∷ record { computed = merged 1 1 (rubbish 2) 0 0 (works 16 16); stated = refused 5 (seven (rubbish 2)) (clean 16) }
+    ∷ record { computed = merged 2 1 two 0 0 (works 24 24); stated = refused 6 (seven two) (clean 24) }
+    ∷ record { computed = merged 2 1 two 3 0 (works 24 24); stated = refused 6 (seven two) (clean 24) }
+    ∷ record { computed = merged 2 1 two 3 3 (works 24 24); stated = refused 7 (seven two) (clean 24) }
+    ∷ record { computed = merged 2 1 two 1 3 (works 24 24); stated = refused 8 (seven two) (clean 24) }
+    ∷ record { computed = merged 2 1 two 3 1 (works 24 24); stated = refused 8 (seven two) (clean 24) }
+    ∷ record { computed = merged 2 2 four 1 4 (works 36 36); stated = refused 9 (seven four) (clean 36) }
+    ∷ record { computed = merged 2 1 two 1 2 (works 24 24); stated = ended 0 [] (seven joined-two) (clean 24) }
+    ∷ record { computed = merged 2 1 two 2 1 (works 24 24); stated = ended 0 [] (seven joined-two) (clean 24) }
     -- depth
-    ∷ record { computed = deepened 111 1 (rubbish 3) 9 (works 16 17); stated = refused 1 (five (rubbish 3)) (works 16 17) }
-    ∷ record { computed = deepened 1 1 (rubbish 2) 9 (works 16 17); stated = refused 4 (five (rubbish 2)) (works 16 17) }
-    ∷ record { computed = deepened 1 1 (rubbish 2) 9 (works 16 16); stated = refused 5 (five (rubbish 2)) (clean 16) }
-    ∷ record { computed = deepened 2 1 two 3 (works 24 24); stated = refused 8 (five two) (clean 24) }
-    ∷ record { computed = deepened 2 1 two 0 (works 24 24); stated = ended 0 (0 ∷ []) (five two) (clean 24) }
-    ∷ record { computed = deepened 2 1 two 2 (works 24 24); stated = ended 0 (1 ∷ []) (five two) (clean 24) }
+    ∷ record { computed = deepened 111 1 (rubbish 3) 9 (works 16 17); stated = refused 1 (seven (rubbish 3)) (works 16 17) }
+    ∷ record { computed = deepened 1 1 (rubbish 2) 9 (works 16 17); stated = refused 4 (seven (rubbish 2)) (works 16 17) }
+    ∷ record { computed = deepened 1 1 (rubbish 2) 9 (works 16 16); stated = refused 5 (seven (rubbish 2)) (clean 16) }
+    ∷ record { computed = deepened 2 1 two 3 (works 24 24); stated = refused 8 (seven two) (clean 24) }
+    ∷ record { computed = deepened 2 1 two 0 (works 24 24); stated = ended 0 (0 ∷ []) (seven two) (clean 24) }
+    ∷ record { computed = deepened 2 1 two 2 (works 24 24); stated = ended 0 (1 ∷ []) (seven two) (clean 24) }
     -- hole count
-    ∷ record { computed = holed 1 73 (rubbish 3) 9 (works 16 17); stated = refused 1 (five (rubbish 3)) (works 16 17) }
-    ∷ record { computed = holed 1 1 (rubbish 2) 9 (works 16 17); stated = refused 4 (five (rubbish 2)) (works 16 17) }
-    ∷ record { computed = holed 1 1 (rubbish 2) 9 (works 16 16); stated = refused 5 (five (rubbish 2)) (clean 16) }
-    ∷ record { computed = holed 2 1 two 3 (works 24 24); stated = refused 8 (five two) (clean 24) }
-    ∷ record { computed = holed 1 1 one 0 (works 16 16); stated = ended 0 (1 ∷ []) (five one) (clean 16) }
-    ∷ record { computed = holed 2 1 two 0 (works 24 24); stated = ended 0 (1 ∷ []) (five two) (clean 24) }
-    ∷ record { computed = holed 2 1 two 2 (works 24 24); stated = ended 0 (0 ∷ []) (five two) (clean 24) }
+    ∷ record { computed = holed 1 73 (rubbish 3) 9 (works 16 17); stated = refused 1 (seven (rubbish 3)) (works 16 17) }
+    ∷ record { computed = holed 1 1 (rubbish 2) 9 (works 16 17); stated = refused 4 (seven (rubbish 2)) (works 16 17) }
+    ∷ record { computed = holed 1 1 (rubbish 2) 9 (works 16 16); stated = refused 5 (seven (rubbish 2)) (clean 16) }
+    ∷ record { computed = holed 2 1 two 3 (works 24 24); stated = refused 8 (seven two) (clean 24) }
+    ∷ record { computed = holed 1 1 one 0 (works 16 16); stated = ended 0 (1 ∷ []) (seven one) (clean 16) }
+    ∷ record { computed = holed 2 1 two 0 (works 24 24); stated = ended 0 (1 ∷ []) (seven two) (clean 24) }
+    ∷ record { computed = holed 2 1 two 2 (works 24 24); stated = ended 0 (0 ∷ []) (seven two) (clean 24) }
     ∷ []
 
 unfoldable pub calls-open : Unit {0}

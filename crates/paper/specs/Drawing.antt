@@ -1,10 +1,10 @@
 -- A drawing (the paper, "A drawing, and joining in it").
---   drawn w h n     == the five tables of the sheet whose cells have the names n
---   drawing w h s   == the five tables of the sheet with the labels s
+--   drawn w h n     == the seven tables of the sheet whose cells have the names n
+--   drawing w h s   == the seven tables of the sheet with the labels s
 --   fresh w h s a b == drawn afresh from the cells' names, a and b both bearing the smaller
---   Drawn w h t     == the five tables are the drawing of some sheet of this size
+--   Drawn w h t     == the seven tables are the drawing of some sheet of this size
 --   recovered w h s == the labels that the sides of level 1 tell
---   isDrawing w h t    == the five tables are the drawing of the recovered labels
+--   isDrawing w h t    == the seven tables are the drawing of the recovered labels
 use mathlib.Core.Path.{_≡_}
 use mathlib.Core.Bool.{Bool, cond, _&&_}
 use mathlib.Core.List.{List, [], _∷_, map}
@@ -17,6 +17,7 @@ use Rattle.point_darts.specs.Dart.{mark, dart}
 use Rattle.paper.specs.Name.{names}
 use Rattle.paper.specs.Level.{side, border, level, marked}
 use Rattle.paper.specs.Enclosure.{parents}
+use Rattle.paper.specs.Total.{cellsOf, bordersOf, totals}
 
 pub record Tables : Type 0 where
   pub next1 : List ℕ
@@ -24,6 +25,8 @@ pub record Tables : Type 0 where
   pub next3 : List ℕ
   pub other3 : List ℕ
   pub parent : List ℕ
+  pub cells : List ℕ
+  pub borders : List ℕ
 
 unfoldable pub drawn : ℕ → ℕ → List ℕ → Tables
 drawn w h n =
@@ -35,6 +38,8 @@ drawn w h n =
       next3 = marked w h (l3 .on) (l3 .next);
       other3 = marked w h (l3 .on) (l3 .other);
       parent = parents w h (border w h n) (side w h n);
+      cells = totals w h (cellsOf w h n) (cellsOf w h n);
+      borders = totals w h (cellsOf w h n) (bordersOf w h n);
     }
 
 unfoldable pub drawing : ℕ → ℕ → List ℕ → Tables
@@ -64,6 +69,8 @@ same t u =
     equal (t .next1) (u .next1) && equal (t .side1) (u .side1) && equal (t .next3) (u .next3)
     && equal (t .other3) (u .other3)
     && equal (t .parent) (u .parent)
+    && equal (t .cells) (u .cells)
+    && equal (t .borders) (u .borders)
 
 unfoldable pub isDrawing : ℕ → ℕ → Tables → Bool
 isDrawing w h t = same t (drawing w h (recovered w h (t .side1)))

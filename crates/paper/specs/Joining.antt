@@ -1,18 +1,20 @@
--- The removal rule (the paper, "A drawing, and joining in it"). It reads the five tables alone.
+-- The removal rule (the paper, "A drawing, and joining in it"). It reads the seven tables alone.
 --   Links           == next and other of a level, as tables
 --   between a b x y == x and y are a and b, in either order
 --   removed ..      == the links without the darts that are taken
 --   rest1, rest3    == step 1: the links of level 1, and of level 3, without the darts of sides a and b
 --   smoothed ..     == step 3: the links without the points that have two darts of two different edges
 --   closed ..       == step 4: each closed curve's darts moved to its anchor
---   joined w h t a b == the five tables after steps 1, 3, 4 and 5
+--   sharedLines ..  == how many lines a and b share: each has one dart with a on its right hand and b on its left
+--   added a b k t   == step 5, totals: what a and b have in the table t, added up less k, is the smaller's; the larger has none
+--   joined w h t a b == the seven tables after steps 1, 3, 4 and 5
 -- Step 2 removed hanging ends; step 1 leaves none (`no-hanging-line`, `no-hanging-curve` in `paper_laws`), so request T-07 took it out.
 use mathlib.Core.Bool.{Bool, true, false, cond, not, _&&_, _||_}
 use mathlib.Core.List.{List}
-use Prim.Native.Nat.{ℕ, zero, suc}
+use Prim.Native.Nat.{ℕ, zero, suc, _+_, _*_, _-_, min, max}
 use lib.Dec.{eqb}
 use lib.ListN.{getD, set}
-use Rattle.laws.specs.Table.{table}
+use Rattle.laws.specs.Table.{table, count}
 use Rattle.laws.specs.Least.{lower}
 use Rattle.laws.specs.Run.{run}
 use Rattle.point_darts.specs.Dart.{mark, points, slots, dart, reversal}
@@ -120,6 +122,12 @@ closes lines t (suc n) p l = closes lines t n (suc p) (close lines t l p)
 unfoldable pub closed : ℕ → ℕ → (ℕ → Bool) → Links → Links
 closed w h lines l = let t = tops w h lines in closes lines t (points w h) 0 l
 
+unfoldable pub sharedLines : ℕ → ℕ → List ℕ → ℕ → ℕ → ℕ
+sharedLines w h s a b = count (slots w h) (λ d. eqb (at s d) a && eqb (at s (reversal w d)) b)
+
+unfoldable pub added : ℕ → ℕ → ℕ → List ℕ → List ℕ
+added a b k t = set (set t (min a b) (at t a + at t b - k)) (max a b) mark
+
 unfoldable pub joined : ℕ → ℕ → Tables → ℕ → ℕ → Tables
 joined w h t a b =
     let k1 = rest1 w h t a b in
@@ -131,4 +139,6 @@ joined w h t a b =
       next3 = c3 .next;
       other3 = c3 .other;
       parent = parents w h (on s1) (at s1);
+      cells = added a b 0 (t .cells);
+      borders = added a b (2 * sharedLines w h (t .side1) a b) (t .borders);
     }

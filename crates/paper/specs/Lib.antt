@@ -6,4 +6,5 @@ pub mod Level
 pub mod Name
 pub mod Refusal
 pub mod Sitting
+pub mod Total
 pub mod Turns

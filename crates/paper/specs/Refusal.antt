@@ -65,13 +65,14 @@ levelled w h l s ts ws =
     outcome r [] ts after ws
 
 -- Whole drawing.
-unfoldable pub five : Tables → List (List ℕ)
-five t = t .next1 ∷ t .side1 ∷ t .next3 ∷ t .other3 ∷ t .parent ∷ []
+unfoldable pub seven : Tables → List (List ℕ)
+seven t = t .next1 ∷ t .side1 ∷ t .next3 ∷ t .other3 ∷ t .parent ∷ t .cells ∷ t .borders ∷ []
 
--- the five tables and the work tables have the stated lengths
+-- the seven tables and the work tables have the stated lengths
 unfoldable pub stated : ℕ → ℕ → Tables → List (List ℕ) → Bool
 stated w h t ws =
-    sized (w * h + 1) (t .parent ∷ []) && sized (slots w h) (t .next1 ∷ t .side1 ∷ t .next3 ∷ t .other3 ∷ ws)
+    sized (w * h + 1) (t .parent ∷ t .cells ∷ t .borders ∷ [])
+    && sized (slots w h) (t .next1 ∷ t .side1 ∷ t .next3 ∷ t .other3 ∷ ws)
 
 unfoldable pub drawTests : ℕ → ℕ → ℕ → Bool → List (Bool × ℕ)
 drawTests w h n k = (within w h, 1) ∷ (eqb n (w * h), 3) ∷ (k, 4) ∷ []
@@ -82,8 +83,8 @@ drawRefusal w h s t ws = firstFailed (drawTests w h (length s) (stated w h t ws)
 unfoldable pub mapped : ℕ → ℕ → List ℕ → Tables → List (List ℕ) → Outcome
 mapped w h s t ws =
     let r = drawRefusal w h s t ws in
-    let after = five (drawing w h s) in
-    outcome r [] (five t) after ws
+    let after = seven (drawing w h s) in
+    outcome r [] (seven t) after ws
 
 -- Calls that are given a drawing.
 unfoldable pub sizeTests : ℕ → ℕ → Bool → List (Bool × ℕ)
@@ -109,14 +110,14 @@ joinRefusal w h t a b ws = firstFailed (givenTests w h t ws ++ nameTests (t .par
 unfoldable pub merged : ℕ → ℕ → Tables → ℕ → ℕ → List (List ℕ) → Outcome
 merged w h t a b ws =
     let r = joinRefusal w h t a b ws in
-    let after = five (joined w h t a b) in
-    outcome r [] (five t) after ws
+    let after = seven (joined w h t a b) in
+    outcome r [] (seven t) after ws
 
 unfoldable pub countRefusal : ℕ → ℕ → Tables → ℕ → List (List ℕ) → ℕ
 countRefusal w h t r ws = firstFailed (givenTests w h t ws ++ (eqb r 0 || used (t .parent) r, 8) ∷ [])
 
 unfoldable pub deepened : ℕ → ℕ → Tables → ℕ → List (List ℕ) → Outcome
-deepened w h t r ws = outcome (countRefusal w h t r ws) (depth (t .parent) r ∷ []) (five t) (five t) ws
+deepened w h t r ws = outcome (countRefusal w h t r ws) (depth (t .parent) r ∷ []) (seven t) (seven t) ws
 
 unfoldable pub holed : ℕ → ℕ → Tables → ℕ → List (List ℕ) → Outcome
-holed w h t r ws = outcome (countRefusal w h t r ws) (holes w h (on (t .side1)) (t .parent) r ∷ []) (five t) (five t) ws
+holed w h t r ws = outcome (countRefusal w h t r ws) (holes w h (on (t .side1)) (t .parent) r ∷ []) (seven t) (seven t) ws

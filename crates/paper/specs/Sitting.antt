@@ -1,6 +1,8 @@
 -- What is promised of joins (the paper, "A drawing, and joining in it", and the third demand).
 --   Joinable w h t a b == a and b are two different regions of the drawing t, neither the outside, that share a line
 --   Sitting w h t u    == joins, one after another, lead from the tables t to the tables u
+--   Recounted w h t    == the totals are those counted again from the drawing's own sides: the cells that they tell, and the darts with
+--                      each side
 --   Midway w h t a b l == the links l are those of level 3 when step 3, or step 4 after it, has treated some points
 --   Away t a b p       == no level 3 curve of t that the join of a and b removes has an end at the point p
 --   Still w h t a b    == steps 3 and 4 of the join change nothing at a point where no removed curve ends, nor at one that
@@ -11,9 +13,12 @@ use mathlib.Core.Path.{_≡_}
 use mathlib.Core.Bool.{true}
 use mathlib.Core.Logic.{_⊎_, _≢_}
 use Prim.Native.Nat.{ℕ, _<_}
-use Rattle.point_darts.specs.Dart.{point}
+use lib.Dec.{eqb}
+use Rattle.laws.specs.Table.{count}
+use Rattle.point_darts.specs.Dart.{slots, point}
 use Rattle.paper.specs.Level.{tops}
-use Rattle.paper.specs.Drawing.{Tables}
+use Rattle.paper.specs.Total.{cellsOf, totals}
+use Rattle.paper.specs.Drawing.{Tables, recovered}
 use Rattle.paper.specs.Joining.{Links, at, on, shared, rest1, rest3, smooth, smooths, smoothed, close, closes, joined}
 use Rattle.paper.specs.Refusal.{used, adjoin}
 
@@ -26,6 +31,12 @@ pub record Joinable (w h : ℕ) (t : Tables) (a b : ℕ) : Type 0 where
 pub data Sitting (w h : ℕ) : Tables → Tables → Type 0 where
   done : {t : Tables} → Sitting w h t t
   then : {t u : Tables} (a b : ℕ) → Joinable w h t a b → Sitting w h (joined w h t a b) u → Sitting w h t u
+
+pub record Recounted (w h : ℕ) (t : Tables) : Type 0 where
+  pub cells : let c = cellsOf w h (recovered w h (t .side1)) in t .cells ≡ totals w h c c
+  pub borders :
+      let c = cellsOf w h (recovered w h (t .side1)) in
+      t .borders ≡ totals w h c (λ r. count (slots w h) (λ d. eqb (at (t .side1) d) r))
 
 pub data Midway (w h : ℕ) (t : Tables) (a b : ℕ) : Links → Type 0 where
   step3 : (i : ℕ) → Midway w h t a b (smooths i 0 (rest3 w h t a b))

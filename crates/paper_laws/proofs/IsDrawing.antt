@@ -1,4 +1,4 @@
--- The test of refusal 5: five tables are the drawing of some sheet exactly where they are the drawing of the labels
+-- The test of refusal 5: seven tables are the drawing of some sheet exactly where they are the drawing of the labels
 -- that their sides of level 1 tell. Those labels are the names of the sheet.
 --   sides w h n     == the sides of level 1 of the sheet whose cells have the names n
 --   hung w i        == the north dart of the left line of cell i
@@ -134,34 +134,45 @@ module _ (w h : ℕ) (s : List ℕ) where
   unfolding drawing
   same-drawing = ap (drawn w h) (names-names w h s)
 
--- Tables are the same where they are equal: each of the five is equal.
-all-five : (a b c d e : Bool) → (a && b && c && d && e) ≡ true
-    → (a ≡ true) × (b ≡ true) × (c ≡ true) × (d ≡ true) × (e ≡ true)
-all-five a b c d e p =
-    let q = and-left (a && b && c && d) e p in
+-- Tables are the same where they are equal: each of the seven is equal.
+all-seven : (a b c d e f g : Bool) → (a && b && c && d && e && f && g) ≡ true
+    → (a ≡ true) × (b ≡ true) × (c ≡ true) × (d ≡ true) × (e ≡ true) × (f ≡ true) × (g ≡ true)
+all-seven a b c d e f g p =
+    let u = and-left (a && b && c && d && e && f) g p in
+    let v = and-left (a && b && c && d && e) f u in
+    let q = and-left (a && b && c && d) e v in
     let r = and-left (a && b && c) d q in
-    let s = and-left (a && b) c r in
-    let f = and-right (a && b && c && d) e p in
-    (and-left a b s, and-right a b s, and-right (a && b) c r, and-right (a && b && c) d q, f)
+    let s = and-left (a && b) c r in (
+      and-left a b s,
+      and-right a b s,
+      and-right (a && b) c r,
+      and-right (a && b && c) d q,
+      and-right (a && b && c && d) e v,
+      and-right (a && b && c && d && e) f u,
+      and-right (a && b && c && d && e && f) g p,
+    )
 
 same-equal : (t u : Tables) → same t u ≡ true → t ≡ u
 unfolding same
 same-equal t u e =
-    let p = all-five (equal (t .next1) (u .next1)) (equal (t .side1) (u .side1)) (equal (t .next3) (u .next3))
-    (equal (t .other3) (u .other3)) (equal (t .parent) (u .parent)) e in
+    let p = all-seven (equal (t .next1) (u .next1)) (equal (t .side1) (u .side1)) (equal (t .next3) (u .next3))
+    (equal (t .other3) (u .other3)) (equal (t .parent) (u .parent)) (equal (t .cells) (u .cells)) (equal (t .borders) (u .borders)) e in
     λ i. record {
       next1 = equal-iff (t .next1) (u .next1) .0 (p .0) i;
       side1 = equal-iff (t .side1) (u .side1) .0 (p .1) i;
       next3 = equal-iff (t .next3) (u .next3) .0 (p .2) i;
       other3 = equal-iff (t .other3) (u .other3) .0 (p .3) i;
       parent = equal-iff (t .parent) (u .parent) .0 (p .4) i;
+      cells = equal-iff (t .cells) (u .cells) .0 (p .5) i;
+      borders = equal-iff (t .borders) (u .borders) .0 (p .6) i;
     }
 
 same-own : (t : Tables) → same t t ≡ true
 unfolding same
 same-own t =
-    and-true (and-true (and-true (and-true (equal-own (t .next1)) (equal-own (t .side1))) (equal-own (t .next3)))
-    (equal-own (t .other3))) (equal-own (t .parent))
+    let plain = and-true (equal-own (t .next1)) (equal-own (t .side1)) in
+    let links = and-true (and-true plain (equal-own (t .next3))) (equal-own (t .other3)) in
+    and-true (and-true (and-true links (equal-own (t .parent))) (equal-own (t .cells))) (equal-own (t .borders))
 
 pub same-iff : (t u : Tables) → (same t u ≡ true) ↔ (t ≡ u)
 same-iff t u = (same-equal t u, λ e. rw (← e) (same-own t))

@@ -28,6 +28,7 @@ use Rattle.point_darts.proofs.Points.{degree-bits}
 use Rattle.paper.specs.Level.{side, border, mask, next, plain, level, big, tops, marked}
 use Rattle.paper.specs.Enclosure.{topSide, parent, parents}
 use Rattle.paper.specs.Drawing.{Tables, drawn}
+use Rattle.paper.specs.Total.{cellsOf}
 use Rattle.paper.specs.Joining.{Links, at, on, shared, removed, rest1, rest3, smooths, smoothed, closes, closed, joined}
 use Rattle.paper_laws.proofs.Sheet.{lines-map, sheet, sheet-chart, sheet-few, sheet-colours}
 use Rattle.paper_laws.proofs.Sheet.{border-alone, border-back, border-below, border-lines}
@@ -41,6 +42,7 @@ use Rattle.paper_laws.proofs.Kept.{top, mask-some, dart-point, sheet-to
 use Rattle.paper_laws.proofs.Enclosure.{head-top, head-east}
 use Rattle.paper_laws.proofs.Drawn.{anchors, sheet-plane, drawn-next1, drawn-side1, drawn-links}
 use Rattle.paper_laws.proofs.Drawn.{drawn-held, drawn-reads, level-reads, length-next1}
+use Rattle.paper_laws.proofs.Added.{added-cells, added-borders}
 
 -- a point that is big among fewer lines is big among more
 number-less : (a b : Bool) → (a ≡ true → b ≡ true) → number a ≤ number b
@@ -109,9 +111,9 @@ module _ (w h : ℕ) (n : List ℕ) where
       (parents-agree (at (marked w h (border w h n) (side w h n))) (side w h n) (drawn-side1 w h n))
 
 tables-path : (t u : Tables) → t .next1 ≡ u .next1 → t .side1 ≡ u .side1 → t .next3 ≡ u .next3 → t .other3 ≡ u .other3
-    → t .parent ≡ u .parent → t ≡ u
-tables-path t u p q r s v =
-    λ i. record { next1 = p i; side1 = q i; next3 = r i; other3 = s i; parent = v i }
+    → t .parent ≡ u .parent → t .cells ≡ u .cells → t .borders ≡ u .borders → t ≡ u
+tables-path t u p q r s v x y =
+    λ i. record { next1 = p i; side1 = q i; next3 = r i; other3 = s i; parent = v i; cells = x i; borders = y i }
 
 module _ (w h a b : ℕ) (n : List ℕ) (room : slots w h ≤ mark) (apart : a ≢ b) (za : a ≢ 0) (zb : b ≢ 0) where
   abbrev m : Map
@@ -285,9 +287,10 @@ module _ (w h a b : ℕ) (n : List ℕ) (room : slots w h ≤ mark) (apart : a �
       ∙ sym (fewer-side w h n (lower a b) outside d))
 
   -- All steps.
-  pub joined-drawn : ((d : ℕ) → side w h n′ d < mark) → joined w h (drawn w h n) a b ≡ drawn w h n′
+  pub joined-drawn : ((d : ℕ) → side w h n′ d < mark) → a ≤ w * h → b ≤ w * h → cellsOf w h n a ≢ 0 → cellsOf w h n b ≢ 0
+      → joined w h (drawn w h n) a b ≡ drawn w h n′
   unfolding joined rest1 rest3 c3 s1
-  joined-drawn small =
+  joined-drawn small ia ib ua ub =
       let (nexts, others) = held-is w h n′ c3 c3-held in
       tables-path (joined w h (drawn w h n) a b) (drawn w h n′)
       r1-is
@@ -295,3 +298,5 @@ module _ (w h a b : ℕ) (n : List ℕ) (room : slots w h ≤ mark) (apart : a �
       (rw r1-on nexts)
       (rw r1-on others)
       (rw (r1-on, s1-is) (parents-drawn w h n′ small))
+      (added-cells a b apart za zb w h n room ia ib ua ub)
+      (added-borders a b apart za zb w h n room ia ib ua ub)

@@ -1,5 +1,5 @@
 -- A join leaves the larger of the two names without a parent: no side bears it any more.
---   joined w h t a b == the five tables after the joining of a and b
+--   joined w h t a b == the seven tables after the joining of a and b
 use mathlib.Core.Path.{_≡_, sym, _∙_}
 use mathlib.Core.Bool.{Bool, true, false, cond, true≢false}
 use mathlib.Core.Logic.{_≢_, _⊎_, inl, inr, ⊎-elim}

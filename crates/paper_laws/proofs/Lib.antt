@@ -1,5 +1,7 @@
+pub mod Added
 pub mod Along
 pub mod Between
+pub mod CellSum
 pub mod Cells
 pub mod Closed
 pub mod Contour
@@ -23,9 +25,11 @@ pub mod Name
 pub mod Neighbour
 pub mod Next
 pub mod Outer
+pub mod Outside
 pub mod Pair
 pub mod Parity
 pub mod Piece
+pub mod Recount
 pub mod Removed
 pub mod Round
 pub mod Share

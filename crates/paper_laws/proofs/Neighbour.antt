@@ -1,27 +1,31 @@
 -- Two regions that may be joined share a line, so their cells touch, and the names with both lowered to the smaller are
 -- names again: the removal rule's tables are those drawn afresh.
 use mathlib.Core.Path.{_≡_, refl, sym, _∙_, ap}
-use mathlib.Core.Bool.{Bool, true, false, _&&_}
+use mathlib.Core.Bool.{Bool, true, false, _&&_, true≢false}
 use mathlib.Core.Logic.{_≢_, _⊎_, inl, inr, ⊎-elim}
 use mathlib.Core.List.{List, map}
-use Prim.Native.Nat.{ℕ, _*_, _<_, _≤_}
+use Prim.Native.Nat.{ℕ, zero, suc, _*_, _<_, _≤_}
+use native.Mathlib.Decide.{decLt}
 use native.Mathlib.Omega.{arith}
 use lib.Dec.{eqb}
-use borrow.Author.Tests.{eqb-true, eqb-false, not-true}
+use lib.ListN.{getD}
+use borrow.Author.Tests.{eqb-true, eqb-false, eq-eqb, not-true}
 use Rattle.laws.specs.Least.{lower}
 use Rattle.laws.proofs.Test.{and-left, and-right, or-either}
 use Rattle.laws.proofs.Table.{some-found}
+use Rattle.laws.proofs.Count.{count-some}
 use Rattle.point_darts.specs.Dart.{mark, slots, reversal}
-use Rattle.paper.specs.Name.{names}
+use Rattle.paper.specs.Name.{label, names}
 use Rattle.paper.specs.Level.{side, border, plain, level}
 use Rattle.paper.specs.Drawing.{drawn, drawing, fresh}
 use Rattle.paper.specs.Joining.{at, on, between, shared, joined}
 use Rattle.paper.specs.Refusal.{used, adjoin}
 use Rattle.paper.specs.Sitting.{Joinable}
+use Rattle.paper.specs.Total.{cellsOf}
 use Rattle.paper_laws.proofs.Name.{join-names}
 use Rattle.paper_laws.proofs.Sheet.{border-back, border-below}
 use Rattle.paper_laws.proofs.Marks.{at-free, cells-slots, names-side-small}
-use Rattle.paper_laws.proofs.Enclosure.{parents-past}
+use Rattle.paper_laws.proofs.Enclosure.{parents-outside, parents-past, parents-used}
 use Rattle.paper_laws.proofs.Drawn.{drawn-side1}
 use Rattle.paper_laws.proofs.Share.{Shore, shore-swap, border-shore}
 use Rattle.paper_laws.proofs.Joined.{joined-drawn}
@@ -75,9 +79,29 @@ module _ (w h : ℕ) (s : List ℕ) (room : slots w h ≤ mark) where
     pub joined-names : names w h (map (lower a b) n) ≡ map (lower a b) n
     joined-names = let c = shore in join-names w h s a b (c .one) (c .two) (c .beside) (c .first) (c .second)
 
+    -- a region has a place in the tables by name, and cells
+    pub used-borne : (v : ℕ) → used (drawing w h s .parent) v ≡ true → (v ≤ w * h) × (cellsOf w h n v ≢ 0)
+    unfolding used on at drawing drawn cellsOf label
+    used-borne zero e =
+        let z = parents-outside w h (border w h n) (side w h n) in
+        absurd (true≢false (sym e ∙ rw (eq-eqb (at (drawing w h s .parent) 0) mark z)))
+    used-borne (suc i) e = go (decLt i (w * h))
+      where
+        own : i < w * h → getD n i 0 ≡ suc i
+        own l = parents-used w h s i l room .0 (eqb-false (at (drawing w h s .parent) (suc i)) mark (not-true _ e))
+
+        go : Dec (i < w * h) → (suc i ≤ w * h) × (cellsOf w h n (suc i) ≢ 0)
+        go (yes l) = (l, count-some (λ k. eqb (label n k) (suc i)) (w * h) i l (eq-eqb (label n i) (suc i) (own l)))
+        go (no l) =
+            absurd (eqb-false (at (drawing w h s .parent) (suc i)) mark (not-true _ e)
+            (parents-past w h (border w h n) (side w h n) (suc i) (omega arith)))
+
     pub fresh-joined : joined w h (drawing w h s) a b ≡ fresh w h s a b
     unfolding drawing fresh
     fresh-joined =
+        let (ia, ua) = used-borne a (j .regions .0) in
+        let (ib, ub) = used-borne b (j .regions .1) in
         joined-drawn w h a b n room (j .apart) (j .inner .0) (j .inner .1)
         (rw (← joined-names) (names-side-small w h (map (lower a b) n) room))
+        ia ib ua ub
         ∙ ap (drawn w h) (sym joined-names)

@@ -2,20 +2,23 @@
 use mathlib.Core.Path.{_≡_, sym, _∙_, ap}
 use mathlib.Core.Bool.{true}
 use mathlib.Core.List.{List, map}
-use Prim.Native.Nat.{ℕ, _≤_}
+use Prim.Native.Nat.{ℕ, _*_, _≤_}
 use lib.ListN.{length-map}
 use Rattle.laws.specs.Least.{lower}
 use Rattle.point_darts.specs.Dart.{mark, slots}
 use Rattle.paper.specs.Name.{names}
 use Rattle.paper.specs.Drawing.{Tables, drawing, fresh, Drawn}
 use Rattle.paper.specs.Joining.{on, joined}
-use Rattle.paper.specs.Sitting.{Joinable, Sitting, done, then, Untouched, Keeps}
+use Rattle.paper.specs.Sitting.{Joinable, Sitting, done, then, Recounted, Untouched, Keeps}
+use Rattle.paper.specs.Total.{summed}
 use Rattle.paper_laws.proofs.Name.{length-names}
 use Rattle.paper_laws.proofs.Neighbour.{fresh-joined}
 use Rattle.paper_laws.proofs.Untouched.{keeps-joined}
+use Rattle.paper_laws.proofs.CellSum.{drawn-sum}
+use Rattle.paper_laws.proofs.Recount.{drawn-recounted}
 
 module _ (w h : ℕ) (room : slots w h ≤ mark) where
-  -- The removal rule's five tables equal those of the fresh drawing.
+  -- The removal rule's seven tables equal those of the fresh drawing.
   pub removal-is-fresh : (s : List ℕ) (a b : ℕ) → Joinable w h (drawing w h s) a b
       → joined w h (drawing w h s) a b ≡ fresh w h s a b
   removal-is-fresh s = fresh-joined w h s room
@@ -35,6 +38,13 @@ module _ (w h : ℕ) (room : slots w h ≤ mark) where
   pub sitting-drawn : {t u : Tables} → Drawn w h t → Sitting w h t u → Drawn w h u
   sitting-drawn d done = d
   sitting-drawn d (then a b j s) = sitting-drawn (joined-again d j) s
+
+  -- Its totals are those that a full recount finds, and the cells of all regions are those of the sheet.
+  pub sitting-recounted : {t u : Tables} → Drawn w h t → Sitting w h t u → Recounted w h u
+  sitting-recounted d s = drawn-recounted w h room _ (sitting-drawn d s)
+
+  pub sitting-sum : {t u : Tables} → Drawn w h t → Sitting w h t u → summed (u .cells) ≡ w * h
+  sitting-sum d s = drawn-sum w h room _ (sitting-drawn d s)
 
   -- A curve neither of whose ends touches a removed curve keeps its links.
   pub untouched : (s : List ℕ) (a b : ℕ) → Joinable w h (drawing w h s) a b → (d : ℕ)

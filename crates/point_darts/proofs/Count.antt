@@ -32,12 +32,12 @@ count-darts (suc n) f =
     rw (e, count-darts n f, dart-suc n 2, dart-suc n 1, dart-suc n 0, dart-zero n) (omega arith)
 
 -- of the numbers up to n, those below n, and those above 0
-count-before : (n : ℕ) → count (suc n) (λ i. ltb i n) ≡ n
+pub count-before : (n : ℕ) → count (suc n) (λ i. ltb i n) ≡ n
 unfolding count
 count-before n =
     rw (le-ltb n n (le-refl n), count-agree (λ i. ltb i n) (λ i. true) n (λ i l. lt-ltb i n l), count-all n) (zero-add n)
 
-count-after : (n : ℕ) → count (suc n) (λ i. ltb 0 i) ≡ n
+pub count-after : (n : ℕ) → count (suc n) (λ i. ltb 0 i) ≡ n
 unfolding count
 count-after zero = refl
 count-after (suc n) = rw (lt-ltb 0 (suc n) (omega arith), count-after n) (omega arith)

@@ -12,7 +12,7 @@ use borrow.Author.Tests.{ne-eqb}
 use Rattle.paper.specs.Enclosure.{depth, holes}
 use Rattle.paper.specs.Drawing.{Tables}
 use Rattle.paper.specs.Joining.{on}
-use Rattle.paper.specs.Refusal.{Outcome, ended, outcome, five, countRefusal, deepened, holed}
+use Rattle.paper.specs.Refusal.{Outcome, ended, outcome, seven, countRefusal, deepened, holed}
 use Rattle.count_answer.specs.declared.Count.{Count}
 use Rattle.answer.specs.Answer.{numberOf}
 use Rattle.count_answer.specs.Count.{countNumber, values, counted}
@@ -33,11 +33,11 @@ valued (suc k) x ts us ws e q = omega (arith, e)
 module _ (w h : ℕ) (t : Tables) (r : ℕ) (ws : List (List ℕ)) where
   pub depth-valued : deepened w h t r ws .number ≡ 0 → deepened w h t r ws .values ≢ []
   unfolding deepened
-  depth-valued = valued (countRefusal w h t r ws) (depth (t .parent) r) (five t) (five t) ws
+  depth-valued = valued (countRefusal w h t r ws) (depth (t .parent) r) (seven t) (seven t) ws
 
   pub holes-valued : holed w h t r ws .number ≡ 0 → holed w h t r ws .values ≢ []
   unfolding holed
-  holes-valued = valued (countRefusal w h t r ws) (holes w h (on (t .side1)) (t .parent) r) (five t) (five t) ws
+  holes-valued = valued (countRefusal w h t r ws) (holes w h (on (t .side1)) (t .parent) r) (seven t) (seven t) ws
 
 -- A count's answer, with its value in a slot.
 module _ (ts ws : List (List ℕ)) (o : Outcome) (l n v : ℕ) where

@@ -3,14 +3,14 @@
 use check_call::check;
 ghost use mathlib.Core.Path.{_≡_};
 ghost use mathlib.Core.List.{[], _∷_, _++_};
-ghost use Rattle.paper.specs.Refusal.{ended, five, merged, deepened, holed};
+ghost use Rattle.paper.specs.Refusal.{ended, seven, merged, deepened, holed};
 ghost use Rattle.table_lengths.specs.Given.{tables, works};
 ghost use Rattle.check_answer.specs.Check.{checked};
 ghost use Rattle.count_call.specs.Tally.{tallied, traced};
 ghost use Rattle.join_call.specs.Faithful.{Faithful};
 ghost use Rattle.raimenolta.specs.Slot.{slotted};
 
-// Checks whether the five tables are the drawing of some sheet of this size. Refusals 1, 4 and 5.
+// Checks whether the seven tables are the drawing of some sheet of this size. Refusals 1, 4 and 5.
 #[no_mangle]
 pub extern "C" fn raimenolta_check(
     width: u16,
@@ -20,6 +20,8 @@ pub extern "C" fn raimenolta_check(
     next3: &[u16],
     other3: &[u16],
     parent: &[u16],
+    cells: &[u16],
+    borders: &[u16],
     work_a: &mut [u16],
     work_b: &mut [u16],
     work_c: &mut [u16],
@@ -27,11 +29,13 @@ pub extern "C" fn raimenolta_check(
 ) -> u16
     ensures { λ r. ⌜
         ended r []
-        (five
-        (tables (now (next1 .entry)) (now (side1 .entry)) (now (next3 .entry)) (now (other3 .entry)) (now (parent .entry))))
+        (seven
+        (tables (now (next1 .entry)) (now (side1 .entry)) (now (next3 .entry)) (now (other3 .entry)) (now (parent .entry))
+        (now (cells .entry)) (now (borders .entry))))
         (works (now («work_a» .exit)) (now («work_b» .exit)) (now («work_c» .exit)) (now («work_d» .exit))) ≡
         checked width height
-        (tables (now (next1 .entry)) (now (side1 .entry)) (now (next3 .entry)) (now (other3 .entry)) (now (parent .entry)))
+        (tables (now (next1 .entry)) (now (side1 .entry)) (now (next3 .entry)) (now (other3 .entry)) (now (parent .entry))
+        (now (cells .entry)) (now (borders .entry)))
         (works (now («work_a» .entry)) (now («work_b» .entry)) (now («work_c» .entry)) (now («work_d» .entry)))
         ⌝ }
 {
@@ -43,6 +47,8 @@ pub extern "C" fn raimenolta_check(
         next3,
         other3,
         parent,
+        cells,
+        borders,
         work_a,
         work_b,
         work_c,
@@ -51,7 +57,7 @@ pub extern "C" fn raimenolta_check(
     answer.number()
 }
 
-// Joins the regions a and b of a drawing, in its five tables, which come to equal the drawing afresh. Refusals 1, 4, 5, 6,
+// Joins the regions a and b of a drawing, in its seven tables, which come to equal the drawing afresh. Refusals 1, 4, 5, 6,
 // 7, 8 and 9.
 #[no_mangle]
 pub extern "C" fn raimenolta_join(
@@ -62,6 +68,8 @@ pub extern "C" fn raimenolta_join(
     next3: &mut [u16],
     other3: &mut [u16],
     parent: &mut [u16],
+    cells: &mut [u16],
+    borders: &mut [u16],
     a: u16,
     b: u16,
     work_a: &mut [u16],
@@ -71,18 +79,22 @@ pub extern "C" fn raimenolta_join(
 ) -> u16
     ensures { λ r. ⌜
         (ended r []
-        (five
-        (tables (now (next1 .exit)) (now (side1 .exit)) (now (next3 .exit)) (now (other3 .exit)) (now (parent .exit))))
+        (seven
+        (tables (now (next1 .exit)) (now (side1 .exit)) (now (next3 .exit)) (now (other3 .exit)) (now (parent .exit))
+        (now (cells .exit)) (now (borders .exit))))
         (works (now («work_a» .exit)) (now («work_b» .exit)) (now («work_c» .exit)) (now («work_d» .exit))) ≡
         merged width height
-        (tables (now (next1 .entry)) (now (side1 .entry)) (now (next3 .entry)) (now (other3 .entry)) (now (parent .entry)))
+        (tables (now (next1 .entry)) (now (side1 .entry)) (now (next3 .entry)) (now (other3 .entry)) (now (parent .entry))
+        (now (cells .entry)) (now (borders .entry)))
         a
         b
         (works (now («work_a» .entry)) (now («work_b» .entry)) (now («work_c» .entry)) (now («work_d» .entry)))) ×
         (r ≡ 0 →
         Faithful width height
-        (tables (now (next1 .entry)) (now (side1 .entry)) (now (next3 .entry)) (now (other3 .entry)) (now (parent .entry)))
-        (tables (now (next1 .exit)) (now (side1 .exit)) (now (next3 .exit)) (now (other3 .exit)) (now (parent .exit)))
+        (tables (now (next1 .entry)) (now (side1 .entry)) (now (next3 .entry)) (now (other3 .entry)) (now (parent .entry))
+        (now (cells .entry)) (now (borders .entry)))
+        (tables (now (next1 .exit)) (now (side1 .exit)) (now (next3 .exit)) (now (other3 .exit)) (now (parent .exit))
+        (now (cells .exit)) (now (borders .exit)))
         a
         b)
         ⌝ }
@@ -95,6 +107,8 @@ pub extern "C" fn raimenolta_join(
         next3,
         other3,
         parent,
+        cells,
+        borders,
         a,
         b,
         work_a,
@@ -116,6 +130,8 @@ pub extern "C" fn raimenolta_depth(
     next3: &[u16],
     other3: &[u16],
     parent: &[u16],
+    cells: &[u16],
+    borders: &[u16],
     name: u16,
     depth: &mut u16,
     work_a: &mut [u16],
@@ -125,13 +141,15 @@ pub extern "C" fn raimenolta_depth(
 ) -> u16
     ensures { λ r. ⌜
         ended r []
-        (five
-        (tables (now (next1 .entry)) (now (side1 .entry)) (now (next3 .entry)) (now (other3 .entry)) (now (parent .entry))) ++
+        (seven
+        (tables (now (next1 .entry)) (now (side1 .entry)) (now (next3 .entry)) (now (other3 .entry)) (now (parent .entry))
+        (now (cells .entry)) (now (borders .entry))) ++
         (now (depth .exit) ∷ []) ∷ [])
         (works (now («work_a» .exit)) (now («work_b» .exit)) (now («work_c» .exit)) (now («work_d» .exit))) ≡
         slotted
         (deepened width height
-        (tables (now (next1 .entry)) (now (side1 .entry)) (now (next3 .entry)) (now (other3 .entry)) (now (parent .entry)))
+        (tables (now (next1 .entry)) (now (side1 .entry)) (now (next3 .entry)) (now (other3 .entry)) (now (parent .entry))
+        (now (cells .entry)) (now (borders .entry)))
         name
         (works (now («work_a» .entry)) (now («work_b» .entry)) (now («work_c» .entry)) (now («work_d» .entry))))
         (now (depth .entry) ∷ [])
@@ -145,6 +163,8 @@ pub extern "C" fn raimenolta_depth(
         next3,
         other3,
         parent,
+        cells,
+        borders,
         name,
         work_a,
         work_b,
@@ -165,6 +185,8 @@ pub extern "C" fn raimenolta_holes(
     next3: &[u16],
     other3: &[u16],
     parent: &[u16],
+    cells: &[u16],
+    borders: &[u16],
     name: u16,
     holes: &mut u16,
     work_a: &mut [u16],
@@ -174,13 +196,15 @@ pub extern "C" fn raimenolta_holes(
 ) -> u16
     ensures { λ r. ⌜
         ended r []
-        (five
-        (tables (now (next1 .entry)) (now (side1 .entry)) (now (next3 .entry)) (now (other3 .entry)) (now (parent .entry))) ++
+        (seven
+        (tables (now (next1 .entry)) (now (side1 .entry)) (now (next3 .entry)) (now (other3 .entry)) (now (parent .entry))
+        (now (cells .entry)) (now (borders .entry))) ++
         (now (holes .exit) ∷ []) ∷ [])
         (works (now («work_a» .exit)) (now («work_b» .exit)) (now («work_c» .exit)) (now («work_d» .exit))) ≡
         slotted
         (holed width height
-        (tables (now (next1 .entry)) (now (side1 .entry)) (now (next3 .entry)) (now (other3 .entry)) (now (parent .entry)))
+        (tables (now (next1 .entry)) (now (side1 .entry)) (now (next3 .entry)) (now (other3 .entry)) (now (parent .entry))
+        (now (cells .entry)) (now (borders .entry)))
         name
         (works (now («work_a» .entry)) (now («work_b» .entry)) (now («work_c» .entry)) (now («work_d» .entry))))
         (now (holes .entry) ∷ [])
@@ -194,6 +218,8 @@ pub extern "C" fn raimenolta_holes(
         next3,
         other3,
         parent,
+        cells,
+        borders,
         name,
         work_a,
         work_b,
@@ -213,6 +239,8 @@ pub extern "C" fn raimenolta_counts(
     next3: &[u16],
     other3: &[u16],
     parent: &[u16],
+    cells: &[u16],
+    borders: &[u16],
     depths: &mut [u16],
     holes: &mut [u16],
     work_a: &mut [u16],
@@ -222,12 +250,14 @@ pub extern "C" fn raimenolta_counts(
 ) -> u16
     ensures { λ r. ⌜
         ended r []
-        (five
-        (tables (now (next1 .entry)) (now (side1 .entry)) (now (next3 .entry)) (now (other3 .entry)) (now (parent .entry))) ++
+        (seven
+        (tables (now (next1 .entry)) (now (side1 .entry)) (now (next3 .entry)) (now (other3 .entry)) (now (parent .entry))
+        (now (cells .entry)) (now (borders .entry))) ++
         now (depths .exit) ∷ now (holes .exit) ∷ [])
         (works (now («work_a» .exit)) (now («work_b» .exit)) (now («work_c» .exit)) (now («work_d» .exit))) ≡
         tallied width height
-        (tables (now (next1 .entry)) (now (side1 .entry)) (now (next3 .entry)) (now (other3 .entry)) (now (parent .entry)))
+        (tables (now (next1 .entry)) (now (side1 .entry)) (now (next3 .entry)) (now (other3 .entry)) (now (parent .entry))
+        (now (cells .entry)) (now (borders .entry)))
         (now (depths .entry))
         (now (holes .entry))
         (works (now («work_a» .entry)) (now («work_b» .entry)) (now («work_c» .entry)) (now («work_d» .entry)))
@@ -241,6 +271,8 @@ pub extern "C" fn raimenolta_counts(
         next3,
         other3,
         parent,
+        cells,
+        borders,
         depths,
         holes,
         work_a,
@@ -261,6 +293,8 @@ pub extern "C" fn raimenolta_turns(
     next3: &[u16],
     other3: &[u16],
     parent: &[u16],
+    cells: &[u16],
+    borders: &[u16],
     right: &mut [u16],
     left: &mut [u16],
     work_a: &mut [u16],
@@ -270,12 +304,14 @@ pub extern "C" fn raimenolta_turns(
 ) -> u16
     ensures { λ r. ⌜
         ended r []
-        (five
-        (tables (now (next1 .entry)) (now (side1 .entry)) (now (next3 .entry)) (now (other3 .entry)) (now (parent .entry))) ++
+        (seven
+        (tables (now (next1 .entry)) (now (side1 .entry)) (now (next3 .entry)) (now (other3 .entry)) (now (parent .entry))
+        (now (cells .entry)) (now (borders .entry))) ++
         now (right .exit) ∷ now (left .exit) ∷ [])
         (works (now («work_a» .exit)) (now («work_b» .exit)) (now («work_c» .exit)) (now («work_d» .exit))) ≡
         traced width height
-        (tables (now (next1 .entry)) (now (side1 .entry)) (now (next3 .entry)) (now (other3 .entry)) (now (parent .entry)))
+        (tables (now (next1 .entry)) (now (side1 .entry)) (now (next3 .entry)) (now (other3 .entry)) (now (parent .entry))
+        (now (cells .entry)) (now (borders .entry)))
         (now (right .entry))
         (now (left .entry))
         (works (now («work_a» .entry)) (now («work_b» .entry)) (now («work_c» .entry)) (now («work_d» .entry)))
@@ -289,6 +325,8 @@ pub extern "C" fn raimenolta_turns(
         next3,
         other3,
         parent,
+        cells,
+        borders,
         right,
         left,
         work_a,

@@ -1,7 +1,7 @@
 // Drawing a sheet: one level, or the whole drawing.
 ghost use mathlib.Core.Path.{_≡_};
 ghost use mathlib.Core.List.{[], _∷_};
-ghost use Rattle.paper.specs.Refusal.{ended, levelled, five, mapped};
+ghost use Rattle.paper.specs.Refusal.{ended, levelled, seven, mapped};
 ghost use Rattle.table_lengths.specs.Given.{tables, works};
 
 // Draws a level of a sheet: next, other and side. Refusals 1, 2, 3 and 4.
@@ -43,7 +43,7 @@ pub extern "C" fn raimenolta_level(
     answer.number()
 }
 
-// Draws a sheet: its five tables. Refusals 1, 3 and 4.
+// Draws a sheet: its seven tables. Refusals 1, 3 and 4.
 #[no_mangle]
 pub extern "C" fn raimenolta_draw(
     width: u16,
@@ -54,6 +54,8 @@ pub extern "C" fn raimenolta_draw(
     next3: &mut [u16],
     other3: &mut [u16],
     parent: &mut [u16],
+    cells: &mut [u16],
+    borders: &mut [u16],
     work_a: &mut [u16],
     work_b: &mut [u16],
     work_c: &mut [u16],
@@ -61,11 +63,13 @@ pub extern "C" fn raimenolta_draw(
 ) -> u16
     ensures { λ r. ⌜
         ended r []
-        (five
-        (tables (now (next1 .exit)) (now (side1 .exit)) (now (next3 .exit)) (now (other3 .exit)) (now (parent .exit))))
+        (seven
+        (tables (now (next1 .exit)) (now (side1 .exit)) (now (next3 .exit)) (now (other3 .exit)) (now (parent .exit))
+        (now (cells .exit)) (now (borders .exit))))
         (works (now («work_a» .exit)) (now («work_b» .exit)) (now («work_c» .exit)) (now («work_d» .exit))) ≡
         mapped width height (now (sheet .entry))
-        (tables (now (next1 .entry)) (now (side1 .entry)) (now (next3 .entry)) (now (other3 .entry)) (now (parent .entry)))
+        (tables (now (next1 .entry)) (now (side1 .entry)) (now (next3 .entry)) (now (other3 .entry)) (now (parent .entry))
+        (now (cells .entry)) (now (borders .entry)))
         (works (now («work_a» .entry)) (now («work_b» .entry)) (now («work_c» .entry)) (now («work_d» .entry)))
         ⌝ }
 {
@@ -78,6 +82,8 @@ pub extern "C" fn raimenolta_draw(
         next3,
         other3,
         parent,
+        cells,
+        borders,
         work_a,
         work_b,
         work_c,

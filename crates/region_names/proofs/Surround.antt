@@ -115,13 +115,13 @@ module _ (w h : ℕ) (n : List ℕ) where
 
 -- The outside by places: the first row, the start of a row, what is past the rows.
 module _ (w h : ℕ) (n : List ℕ) where
-  outside-north : (k : ℕ) → k < w + 1 → 0 ≡ named-at w h n k
+  pub outside-north : (k : ℕ) → k < w + 1 → 0 ≡ named-at w h n k
   outside-north k b = named-north w h n _ _ (div-eq-of-lt b)
 
-  outside-west : (k y : ℕ) → k ≡ place w 0 y → 0 ≡ named-at w h n k
+  pub outside-west : (k y : ℕ) → k ≡ place w 0 y → 0 ≡ named-at w h n k
   outside-west k y e = named-west w h n _ _ (rw e (column w 0 y (omega arith)))
 
-  outside-south : (k : ℕ) → points w h ≤ k → 0 ≡ named-at w h n k
+  pub outside-south : (k : ℕ) → points w h ≤ k → 0 ≡ named-at w h n k
   unfolding points
   outside-south k b =
       named-south w h n _ _ (le-div-iff-mul-le {k = w + 1} (omega arith) .1 (omega (arith, mul-comm (w + 1) (h + 1))))

@@ -60,18 +60,21 @@ module _ (w h : ℕ) where
   unfolding lengths allAre every
   dart-lengths ts = all-sized (slots w h) ts
 
-  -- of the five tables of a drawing and work tables
+  -- of the seven tables of a drawing and work tables
   module _ (t : Tables) (ws : List (List ℕ)) where
     abbrev pub by-dart : List (List ℕ)
     by-dart = t .next1 ∷ t .side1 ∷ t .next3 ∷ t .other3 ∷ ws
 
-    pub stated-lengths : lengths w h (length (t .parent) ∷ []) (map length by-dart) ≡ stated w h t ws
+    abbrev pub by-name : List (List ℕ)
+    by-name = t .parent ∷ t .cells ∷ t .borders ∷ []
+
+    pub stated-lengths : lengths w h (map length by-name) (map length by-dart) ≡ stated w h t ws
     unfolding lengths stated
-    stated-lengths = rw (all-sized (slots w h) by-dart, all-sized (w * h + 1) (t .parent ∷ []))
+    stated-lengths = rw (all-sized (slots w h) by-dart, all-sized (w * h + 1) by-name)
 
     module _ (e : stated w h t ws ≡ true) where
-      pub stated-parent : length (t .parent) ≡ w * h + 1
-      stated-parent = each-name (length (t .parent) ∷ []) (map length by-dart) (stated-lengths ∙ e) .0
+      pub stated-names : Each (w * h + 1) (map length by-name)
+      stated-names = each-name (map length by-name) (map length by-dart) (stated-lengths ∙ e)
 
       pub stated-slots : Each (slots w h) (map length by-dart)
-      stated-slots = each-dart (length (t .parent) ∷ []) (map length by-dart) (stated-lengths ∙ e)
+      stated-slots = each-dart (map length by-name) (map length by-dart) (stated-lengths ∙ e)

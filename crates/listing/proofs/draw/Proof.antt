@@ -33,29 +33,44 @@ array-borrow-prefix-parent c = blank-in 0 _ room (c .before .before .before .bef
 slice-aggregate-draw-5 : tie.Need-slice-aggregate-draw-5
 slice-aggregate-draw-5 c = blank-front 0 _ room (c .before .before .before .before .before .before .pre .1)
 
-array-borrow-prefix-a : tie.Need-array-borrow-prefix-a
-array-borrow-prefix-a c = blank-in 0 _ room (c .before .before .before .before .before .before .pre .0)
+array-borrow-prefix-cells : tie.Need-array-borrow-prefix-cells
+array-borrow-prefix-cells c = blank-in 0 _ room (c .before .before .before .before .before .before .pre .1)
 
 slice-aggregate-draw-6 : tie.Need-slice-aggregate-draw-6
-slice-aggregate-draw-6 c = blank-front 0 _ room (c .before .before .before .before .before .before .before .pre .0)
+slice-aggregate-draw-6 c = blank-front 0 _ room (c .before .before .before .before .before .before .before .pre .1)
 
-array-borrow-prefix-b : tie.Need-array-borrow-prefix-b
-array-borrow-prefix-b c = blank-in 0 _ room (c .before .before .before .before .before .before .before .pre .0)
+array-borrow-prefix-borders : tie.Need-array-borrow-prefix-borders
+array-borrow-prefix-borders c = blank-in 0 _ room (c .before .before .before .before .before .before .before .pre .1)
 
 slice-aggregate-draw-7 : tie.Need-slice-aggregate-draw-7
-slice-aggregate-draw-7 c = blank-front 0 _ room (c .before .before .before .before .before .before .before .before .pre .0)
+slice-aggregate-draw-7 c = blank-front 0 _ room (c .before .before .before .before .before .before .before .before .pre .1)
 
-array-borrow-prefix-c : tie.Need-array-borrow-prefix-c
-array-borrow-prefix-c c = blank-in 0 _ room (c .before .before .before .before .before .before .before .before .pre .0)
+array-borrow-prefix-a : tie.Need-array-borrow-prefix-a
+array-borrow-prefix-a c = blank-in 0 _ room (c .before .before .before .before .before .before .before .before .pre .0)
 
 slice-aggregate-draw-8 : tie.Need-slice-aggregate-draw-8
 slice-aggregate-draw-8 c = blank-front 0 _ room (c .before .before .before .before .before .before .before .before .before .pre .0)
 
-array-borrow-prefix-d : tie.Need-array-borrow-prefix-d
-array-borrow-prefix-d c = blank-in 0 _ room (c .before .before .before .before .before .before .before .before .before .pre .0)
+array-borrow-prefix-b : tie.Need-array-borrow-prefix-b
+array-borrow-prefix-b c = blank-in 0 _ room (c .before .before .before .before .before .before .before .before .before .pre .0)
 
 slice-aggregate-draw-9 : tie.Need-slice-aggregate-draw-9
 slice-aggregate-draw-9 c = blank-front 0 _ room (c .before .before .before .before .before .before .before .before .before .before .pre .0)
+
+array-borrow-prefix-c : tie.Need-array-borrow-prefix-c
+array-borrow-prefix-c c = blank-in 0 _ room (c .before .before .before .before .before .before .before .before .before .before .pre .0)
+
+slice-aggregate-draw-10 : tie.Need-slice-aggregate-draw-10
+slice-aggregate-draw-10 c =
+    blank-front 0 _ room (c .before .before .before .before .before .before .before .before .before .before .before .pre .0)
+
+array-borrow-prefix-d : tie.Need-array-borrow-prefix-d
+array-borrow-prefix-d c =
+    blank-in 0 _ room (c .before .before .before .before .before .before .before .before .before .before .before .pre .0)
+
+slice-aggregate-draw-11 : tie.Need-slice-aggregate-draw-11
+slice-aggregate-draw-11 c =
+    blank-front 0 _ room (c .before .before .before .before .before .before .before .before .before .before .before .before .pre .0)
 
 draw-requires : tie.Need-draw-requires
 draw-requires c κs = tt
@@ -77,13 +92,17 @@ draw-spec =
     slice-aggregate-draw-4
     array-borrow-prefix-parent
     slice-aggregate-draw-5
-    array-borrow-prefix-a
+    array-borrow-prefix-cells
     slice-aggregate-draw-6
-    array-borrow-prefix-b
+    array-borrow-prefix-borders
     slice-aggregate-draw-7
-    array-borrow-prefix-c
+    array-borrow-prefix-a
     slice-aggregate-draw-8
-    array-borrow-prefix-d
+    array-borrow-prefix-b
     slice-aggregate-draw-9
+    array-borrow-prefix-c
+    slice-aggregate-draw-10
+    array-borrow-prefix-d
+    slice-aggregate-draw-11
     draw-requires
     returns)

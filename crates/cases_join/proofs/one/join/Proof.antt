@@ -5,9 +5,9 @@ use Rattle.table_entries.proofs.Front.{front-in, front-long, blank-in, blank-fr
 use Rattle.cases_join.proofs.one.join.Statement.{statement}
 use Rattle.cases_join.proofs.one.join.Tie as tie
 
--- The way back to the start: from the five tables taken out, and from each table lent.
-abbrev from-taken : tie.After-parent → tie.Start
-from-taken c = c .before .before .before .before .before
+-- The way back to the start: from the seven tables taken out, and from each table lent.
+abbrev from-taken : tie.After-borders → tie.Start
+from-taken c = c .before .before .before .before .before .before .before
 
 abbrev from-next1 : tie.After-next12 → tie.Start
 from-next1 c = from-taken (c .before)
@@ -24,8 +24,14 @@ from-other3 c = from-next3 (c .before)
 abbrev from-parent : tie.After-parent2 → tie.Start
 from-parent c = from-other3 (c .before)
 
+abbrev from-cells : tie.After-cells2 → tie.Start
+from-cells c = from-parent (c .before)
+
+abbrev from-borders : tie.After-borders2 → tie.Start
+from-borders c = from-cells (c .before)
+
 abbrev from-a : tie.After-a → tie.Start
-from-a c = from-parent (c .before)
+from-a c = from-borders (c .before)
 
 abbrev from-b : tie.After-b → tie.Start
 from-b c = from-a (c .before)
@@ -36,7 +42,7 @@ from-c c = from-b (c .before)
 abbrev from-d : tie.After-d → tie.Start
 from-d c = from-c (c .before)
 
--- The five tables that are given are as long as the room.
+-- The seven tables that are given are as long as the room.
 next1-long : (s : tie.Start) → length (s .args .tables .next1) ≡ room
 next1-long s = simp length-map at (s .good .1 .1 .1 .1 .0 .1 .1 .0 .1 .0 .1)
 
@@ -51,6 +57,12 @@ other3-long s = simp length-map at (s .good .1 .1 .1 .1 .0 .1 .1 .1 .1 .1 .0 .1 
 
 parent-long : (s : tie.Start) → length (s .args .tables .parent) ≡ room
 parent-long s = simp length-map at (s .good .1 .1 .1 .1 .0 .1 .1 .1 .1 .1 .1 .0 .1 .0 .1)
+
+cells-long : (s : tie.Start) → length (s .args .tables .cells) ≡ room
+cells-long s = simp length-map at (s .good .1 .1 .1 .1 .0 .1 .1 .1 .1 .1 .1 .1 .0 .1 .0 .1)
+
+borders-long : (s : tie.Start) → length (s .args .tables .borders) ≡ room
+borders-long s = simp length-map at (s .good .1 .1 .1 .1 .0 .1 .1 .1 .1 .1 .1 .1 .1 .0 .1 .0 .1)
 
 array-borrow-prefix-next1 : tie.Need-array-borrow-prefix-next1
 array-borrow-prefix-next1 c =
@@ -92,29 +104,45 @@ array-borrow-prefix-parent c =
 slice-aggregate-join-5 : tie.Need-slice-aggregate-join-5
 slice-aggregate-join-5 c = let s = from-parent c in sym (front-long room _ _ (parent-long s) (s .pre .parent))
 
-array-borrow-prefix-a : tie.Need-array-borrow-prefix-a
-array-borrow-prefix-a c = blank-in 7 _ room (from-parent c .pre .a)
+array-borrow-prefix-cells : tie.Need-array-borrow-prefix-cells
+array-borrow-prefix-cells c =
+    let s = from-parent c in
+    front-in room _ (s .args .tables .cells) (cells-long s) (s .pre .cells)
 
 slice-aggregate-join-6 : tie.Need-slice-aggregate-join-6
-slice-aggregate-join-6 c = blank-front 7 _ room (from-a c .pre .a)
+slice-aggregate-join-6 c = let s = from-cells c in sym (front-long room _ _ (cells-long s) (s .pre .cells))
+
+array-borrow-prefix-borders : tie.Need-array-borrow-prefix-borders
+array-borrow-prefix-borders c =
+    let s = from-cells c in
+    front-in room _ (s .args .tables .borders) (borders-long s) (s .pre .borders)
+
+slice-aggregate-join-7 : tie.Need-slice-aggregate-join-7
+slice-aggregate-join-7 c = let s = from-borders c in sym (front-long room _ _ (borders-long s) (s .pre .borders))
+
+array-borrow-prefix-a : tie.Need-array-borrow-prefix-a
+array-borrow-prefix-a c = blank-in 7 _ room (from-borders c .pre .a)
+
+slice-aggregate-join-8 : tie.Need-slice-aggregate-join-8
+slice-aggregate-join-8 c = blank-front 7 _ room (from-a c .pre .a)
 
 array-borrow-prefix-b : tie.Need-array-borrow-prefix-b
 array-borrow-prefix-b c = blank-in 7 _ room (from-a c .pre .b)
 
-slice-aggregate-join-7 : tie.Need-slice-aggregate-join-7
-slice-aggregate-join-7 c = blank-front 7 _ room (from-b c .pre .b)
+slice-aggregate-join-9 : tie.Need-slice-aggregate-join-9
+slice-aggregate-join-9 c = blank-front 7 _ room (from-b c .pre .b)
 
 array-borrow-prefix-c : tie.Need-array-borrow-prefix-c
 array-borrow-prefix-c c = blank-in 7 _ room (from-b c .pre .c)
 
-slice-aggregate-join-8 : tie.Need-slice-aggregate-join-8
-slice-aggregate-join-8 c = blank-front 7 _ room (from-c c .pre .c)
+slice-aggregate-join-10 : tie.Need-slice-aggregate-join-10
+slice-aggregate-join-10 c = blank-front 7 _ room (from-c c .pre .c)
 
 array-borrow-prefix-d : tie.Need-array-borrow-prefix-d
 array-borrow-prefix-d c = blank-in 7 _ room (from-c c .pre .d)
 
-slice-aggregate-join-9 : tie.Need-slice-aggregate-join-9
-slice-aggregate-join-9 c = blank-front 7 _ room (from-d c .pre .d)
+slice-aggregate-join-11 : tie.Need-slice-aggregate-join-11
+slice-aggregate-join-11 c = blank-front 7 _ room (from-d c .pre .d)
 
 join-requires : tie.Need-join-requires
 join-requires c κs = tt
@@ -139,14 +167,18 @@ join-spec =
     slice-aggregate-join-4
     array-borrow-prefix-parent
     slice-aggregate-join-5
-    array-borrow-prefix-a
+    array-borrow-prefix-cells
     slice-aggregate-join-6
-    array-borrow-prefix-b
+    array-borrow-prefix-borders
     slice-aggregate-join-7
-    array-borrow-prefix-c
+    array-borrow-prefix-a
     slice-aggregate-join-8
-    array-borrow-prefix-d
+    array-borrow-prefix-b
     slice-aggregate-join-9
+    array-borrow-prefix-c
+    slice-aggregate-join-10
+    array-borrow-prefix-d
+    slice-aggregate-join-11
     join-requires
     number-requires
     returns)

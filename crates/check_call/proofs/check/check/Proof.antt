@@ -46,29 +46,29 @@ found-requires c κs = tt
 same-length : tie.Need-same-length
 same-length c =
     let e = cleared c in
-    e .clear-four .kept .0 ∙ compared e .is-drawing .kept .1 .1 .1 .1 .1 .1 .1 .0
+    e .clear-four .kept .0 ∙ compared e .is-drawing .kept .1 .1 .1 .1 .1 .1 .1 .1 .1 .0
 
 same-length-2 : tie.Need-same-length-2
 same-length-2 c =
     let e = cleared c in
-    e .clear-four .kept .1 .0 ∙ compared e .is-drawing .kept .1 .1 .1 .1 .1 .1 .1 .1 .0
+    e .clear-four .kept .1 .0 ∙ compared e .is-drawing .kept .1 .1 .1 .1 .1 .1 .1 .1 .1 .1 .0
 
 same-length-3 : tie.Need-same-length-3
 same-length-3 c =
     let e = cleared c in
-    e .clear-four .kept .1 .1 .0 ∙ compared e .is-drawing .kept .1 .1 .1 .1 .1 .1 .1 .1 .1 .0
+    e .clear-four .kept .1 .1 .0 ∙ compared e .is-drawing .kept .1 .1 .1 .1 .1 .1 .1 .1 .1 .1 .1 .0
 
 same-length-4 : tie.Need-same-length-4
 same-length-4 c =
     let e = cleared c in
-    e .clear-four .kept .1 .1 .1 .0 ∙ compared e .is-drawing .kept .1 .1 .1 .1 .1 .1 .1 .1 .1 .1 .0
+    e .clear-four .kept .1 .1 .1 .0 ∙ compared e .is-drawing .kept .1 .1 .1 .1 .1 .1 .1 .1 .1 .1 .1 .1 .0
 
 returns-2 : tie.Need-returns-2
 returns-2 c =
     let e = cleared c in
     let d = compared e in
     let k = answered d in
-    let l = d .is-drawing .kept .1 .1 .1 .1 .1 .1 .1 in
+    let l = d .is-drawing .kept .1 .1 .1 .1 .1 .1 .1 .1 .1 in
     check-found _ _ _ _ _ (k .before .refusal .ensures) (sym (k .number .ensures) ∙ d .before .before .before .before .before .if1 .left) _
     (e .clear-four .ensures ∙ cleared-same _ _ _ _ _ _ _ _ (l .0) (l .1 .0) (l .1 .1 .0) (l .1 .1 .1 .0)) _ (d .is-drawing .ensures) _
     (c .found .ensures)

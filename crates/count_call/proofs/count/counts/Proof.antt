@@ -42,16 +42,16 @@ number-requires : tie.Need-number-requires
 number-requires c κs = tt
 
 same-length : tie.Need-same-length
-same-length c = judged (c .before) .judge .kept .1 .1 .1 .1 .1 .1 .1 .1 .1 .0
+same-length c = judged (c .before) .judge .kept .1 .1 .1 .1 .1 .1 .1 .1 .1 .1 .1 .0
 
 same-length-2 : tie.Need-same-length-2
-same-length-2 c = judged (c .before) .judge .kept .1 .1 .1 .1 .1 .1 .1 .1 .1 .1 .0
+same-length-2 c = judged (c .before) .judge .kept .1 .1 .1 .1 .1 .1 .1 .1 .1 .1 .1 .1 .0
 
 same-length-3 : tie.Need-same-length-3
-same-length-3 c = judged (c .before) .judge .kept .1 .1 .1 .1 .1 .1 .1 .1 .1 .1 .1 .0
+same-length-3 c = judged (c .before) .judge .kept .1 .1 .1 .1 .1 .1 .1 .1 .1 .1 .1 .1 .1 .0
 
 same-length-4 : tie.Need-same-length-4
-same-length-4 c = judged (c .before) .judge .kept .1 .1 .1 .1 .1 .1 .1 .1 .1 .1 .1 .1 .0
+same-length-4 c = judged (c .before) .judge .kept .1 .1 .1 .1 .1 .1 .1 .1 .1 .1 .1 .1 .1 .1 .0
 
 returns : tie.Need-returns
 unfolding tallied
@@ -84,16 +84,16 @@ same-length-6 c = end c .all-holes .kept .1 .1 .1 .1 .0
 same-length-7 : tie.Need-same-length-7
 same-length-7 c =
     let f = end c in
-    f .all-holes .kept .1 .1 .1 .1 .1 .0 ∙ asked (done (deepened f)) .judge .kept .1 .1 .1 .1 .1 .1 .1 .1 .1 .0
+    f .all-holes .kept .1 .1 .1 .1 .1 .0 ∙ asked (done (deepened f)) .judge .kept .1 .1 .1 .1 .1 .1 .1 .1 .1 .1 .1 .0
 
 same-length-8 : tie.Need-same-length-8
-same-length-8 c = asked (done (deepened (end c))) .judge .kept .1 .1 .1 .1 .1 .1 .1 .1 .1 .1 .0
+same-length-8 c = asked (done (deepened (end c))) .judge .kept .1 .1 .1 .1 .1 .1 .1 .1 .1 .1 .1 .1 .0
 
 same-length-9 : tie.Need-same-length-9
-same-length-9 c = asked (done (deepened (end c))) .judge .kept .1 .1 .1 .1 .1 .1 .1 .1 .1 .1 .1 .0
+same-length-9 c = asked (done (deepened (end c))) .judge .kept .1 .1 .1 .1 .1 .1 .1 .1 .1 .1 .1 .1 .1 .0
 
 same-length-10 : tie.Need-same-length-10
-same-length-10 c = asked (done (deepened (end c))) .judge .kept .1 .1 .1 .1 .1 .1 .1 .1 .1 .1 .1 .1 .0
+same-length-10 c = asked (done (deepened (end c))) .judge .kept .1 .1 .1 .1 .1 .1 .1 .1 .1 .1 .1 .1 .1 .1 .0
 
 returns-2 : tie.Need-returns-2
 unfolding tallied

@@ -15,16 +15,16 @@ depth-after-requires : tie.Need-depth-after-requires
 depth-after-requires c κs = countable _ _ _ _ _ _ _ _ (c .before .before .before .before .before .before .before .before .check .ensures)
 
 same-length : tie.Need-same-length
-same-length c = checked c .check .kept .1 .1 .1 .1 .1 .1 .1 .0
+same-length c = checked c .check .kept .1 .1 .1 .1 .1 .1 .1 .1 .1 .0
 
 same-length-2 : tie.Need-same-length-2
-same-length-2 c = checked c .check .kept .1 .1 .1 .1 .1 .1 .1 .1 .0
+same-length-2 c = checked c .check .kept .1 .1 .1 .1 .1 .1 .1 .1 .1 .1 .0
 
 same-length-3 : tie.Need-same-length-3
-same-length-3 c = checked c .check .kept .1 .1 .1 .1 .1 .1 .1 .1 .1 .0
+same-length-3 c = checked c .check .kept .1 .1 .1 .1 .1 .1 .1 .1 .1 .1 .1 .0
 
 same-length-4 : tie.Need-same-length-4
-same-length-4 c = checked c .check .kept .1 .1 .1 .1 .1 .1 .1 .1 .1 .1 .0
+same-length-4 c = checked c .check .kept .1 .1 .1 .1 .1 .1 .1 .1 .1 .1 .1 .1 .0
 
 returns : tie.Need-returns
 unfolding deepened

@@ -20,16 +20,16 @@ holes-after-requires c κs =
 same-length : tie.Need-same-length
 same-length c =
     let f = c .before .before in
-    f .holes-after .kept .1 .1 .1 .1 .1 .1 .0 ∙ checked f .check .kept .1 .1 .1 .1 .1 .1 .1 .0
+    f .holes-after .kept .1 .1 .1 .1 .1 .1 .0 ∙ checked f .check .kept .1 .1 .1 .1 .1 .1 .1 .1 .1 .0
 
 same-length-2 : tie.Need-same-length-2
-same-length-2 c = checked (c .before .before) .check .kept .1 .1 .1 .1 .1 .1 .1 .1 .0
+same-length-2 c = checked (c .before .before) .check .kept .1 .1 .1 .1 .1 .1 .1 .1 .1 .1 .0
 
 same-length-3 : tie.Need-same-length-3
-same-length-3 c = checked (c .before .before) .check .kept .1 .1 .1 .1 .1 .1 .1 .1 .1 .0
+same-length-3 c = checked (c .before .before) .check .kept .1 .1 .1 .1 .1 .1 .1 .1 .1 .1 .1 .0
 
 same-length-4 : tie.Need-same-length-4
-same-length-4 c = checked (c .before .before) .check .kept .1 .1 .1 .1 .1 .1 .1 .1 .1 .1 .0
+same-length-4 c = checked (c .before .before) .check .kept .1 .1 .1 .1 .1 .1 .1 .1 .1 .1 .1 .1 .0
 
 returns : tie.Need-returns
 unfolding holed

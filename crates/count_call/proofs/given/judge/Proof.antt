@@ -25,16 +25,16 @@ check-requires : tie.Need-check-requires
 check-requires c κs = tt
 
 same-length : tie.Need-same-length
-same-length c = checked c .check .kept .1 .1 .1 .1 .1 .1 .1 .0
+same-length c = checked c .check .kept .1 .1 .1 .1 .1 .1 .1 .1 .1 .0
 
 same-length-2 : tie.Need-same-length-2
-same-length-2 c = checked c .check .kept .1 .1 .1 .1 .1 .1 .1 .1 .0
+same-length-2 c = checked c .check .kept .1 .1 .1 .1 .1 .1 .1 .1 .1 .1 .0
 
 same-length-3 : tie.Need-same-length-3
-same-length-3 c = checked c .check .kept .1 .1 .1 .1 .1 .1 .1 .1 .1 .0
+same-length-3 c = checked c .check .kept .1 .1 .1 .1 .1 .1 .1 .1 .1 .1 .1 .0
 
 same-length-4 : tie.Need-same-length-4
-same-length-4 c = checked c .check .kept .1 .1 .1 .1 .1 .1 .1 .1 .1 .1 .0
+same-length-4 c = checked c .check .kept .1 .1 .1 .1 .1 .1 .1 .1 .1 .1 .1 .1 .0
 
 returns-2 : tie.Need-returns-2
 returns-2 c =

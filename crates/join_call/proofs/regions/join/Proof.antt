@@ -14,10 +14,12 @@ abbrev asked : tie.After-number → tie.After-asked
 asked c = c .before
 
 abbrev answered : tie.After-apply → tie.After-number
-answered c = c .before .before .before .before .before .before .before .before .before
+answered c = c .before .before .before .before .before .before .before .before .before .before .before
 
-abbrev joined : tie.After-slice-known20 → tie.After-apply
-joined c = c .before .before .before .before .before .before .before .before .before .before .before .before .before .before
+abbrev joined : tie.After-slice-known24 → tie.After-apply
+joined c =
+    let d = c .before .before .before .before .before .before .before .before .before in
+    d .before .before .before .before .before .before .before .before .before
 
 check-requires : tie.Need-check-requires
 check-requires c κs = tt
@@ -47,16 +49,22 @@ same-length-5 : tie.Need-same-length-5
 same-length-5 c = refl
 
 same-length-6 : tie.Need-same-length-6
-same-length-6 c = checked (asked (c .before)) .check .kept .1 .1 .1 .1 .1 .1 .1 .0
+same-length-6 c = refl
 
 same-length-7 : tie.Need-same-length-7
-same-length-7 c = checked (asked (c .before)) .check .kept .1 .1 .1 .1 .1 .1 .1 .1 .0
+same-length-7 c = refl
 
 same-length-8 : tie.Need-same-length-8
 same-length-8 c = checked (asked (c .before)) .check .kept .1 .1 .1 .1 .1 .1 .1 .1 .1 .0
 
 same-length-9 : tie.Need-same-length-9
 same-length-9 c = checked (asked (c .before)) .check .kept .1 .1 .1 .1 .1 .1 .1 .1 .1 .1 .0
+
+same-length-10 : tie.Need-same-length-10
+same-length-10 c = checked (asked (c .before)) .check .kept .1 .1 .1 .1 .1 .1 .1 .1 .1 .1 .1 .0
+
+same-length-11 : tie.Need-same-length-11
+same-length-11 c = checked (asked (c .before)) .check .kept .1 .1 .1 .1 .1 .1 .1 .1 .1 .1 .1 .1 .0
 
 returns : tie.Need-returns
 returns c =
@@ -66,48 +74,54 @@ returns c =
 
 apply-requires : tie.Need-apply-requires
 apply-requires c κs =
-    let n = c .before .before .before .before .before .before .before .before in
+    let n = c .before .before .before .before .before .before .before .before .before .before in
     let k = asked n in
-    let z = sym (n .number .ensures) ∙ c .before .before .before .before .before .before .before .if1 .left in
-    ready-pair _ _ _ _ _ _ _ _ _ _ _ _ _ (asked-ready _ _ _ _ _ _ _ _ (checked k .check .ensures) _ (k .asked .ensures) z)
-
-same-length-10 : tie.Need-same-length-10
-same-length-10 c = joined c .apply .kept .1 .1 .1 .1 .0
-
-same-length-11 : tie.Need-same-length-11
-same-length-11 c = joined c .apply .kept .1 .1 .1 .1 .1 .0
+    let z = sym (n .number .ensures) ∙ c .before .before .before .before .before .before .before .before .before .if1 .left in
+    ready-pair _ _ _ _ _ _ _ _ _ _ _ _ _ _ _ (asked-ready _ _ _ _ _ _ _ _ (checked k .check .ensures) _ (k .asked .ensures) z)
 
 same-length-12 : tie.Need-same-length-12
-same-length-12 c = joined c .apply .kept .1 .1 .1 .1 .1 .1 .0
+same-length-12 c = joined c .apply .kept .1 .1 .1 .1 .0
 
 same-length-13 : tie.Need-same-length-13
-same-length-13 c = joined c .apply .kept .1 .1 .1 .1 .1 .1 .1 .0
+same-length-13 c = joined c .apply .kept .1 .1 .1 .1 .1 .0
 
 same-length-14 : tie.Need-same-length-14
-same-length-14 c = joined c .apply .kept .1 .1 .1 .1 .1 .1 .1 .1 .0
+same-length-14 c = joined c .apply .kept .1 .1 .1 .1 .1 .1 .0
 
 same-length-15 : tie.Need-same-length-15
-same-length-15 c =
-    let p = joined c in
-    p .apply .kept .1 .1 .1 .1 .1 .1 .1 .1 .1 .0 ∙ checked (asked (answered p)) .check .kept .1 .1 .1 .1 .1 .1 .1 .0
+same-length-15 c = joined c .apply .kept .1 .1 .1 .1 .1 .1 .1 .0
 
 same-length-16 : tie.Need-same-length-16
-same-length-16 c =
-    let p = joined c in
-    p .apply .kept .1 .1 .1 .1 .1 .1 .1 .1 .1 .1 .0 ∙ checked (asked (answered p)) .check .kept .1 .1 .1 .1 .1 .1 .1 .1 .0
+same-length-16 c = joined c .apply .kept .1 .1 .1 .1 .1 .1 .1 .1 .0
 
 same-length-17 : tie.Need-same-length-17
-same-length-17 c = checked (asked (answered (joined c))) .check .kept .1 .1 .1 .1 .1 .1 .1 .1 .1 .0
+same-length-17 c = joined c .apply .kept .1 .1 .1 .1 .1 .1 .1 .1 .1 .0
 
 same-length-18 : tie.Need-same-length-18
-same-length-18 c = checked (asked (answered (joined c))) .check .kept .1 .1 .1 .1 .1 .1 .1 .1 .1 .1 .0
+same-length-18 c = joined c .apply .kept .1 .1 .1 .1 .1 .1 .1 .1 .1 .1 .0
+
+same-length-19 : tie.Need-same-length-19
+same-length-19 c =
+    let p = joined c in
+    p .apply .kept .1 .1 .1 .1 .1 .1 .1 .1 .1 .1 .1 .0 ∙ checked (asked (answered p)) .check .kept .1 .1 .1 .1 .1 .1 .1 .1 .1 .0
+
+same-length-20 : tie.Need-same-length-20
+same-length-20 c =
+    let p = joined c in
+    p .apply .kept .1 .1 .1 .1 .1 .1 .1 .1 .1 .1 .1 .1 .0 ∙ checked (asked (answered p)) .check .kept .1 .1 .1 .1 .1 .1 .1 .1 .1 .1 .0
+
+same-length-21 : tie.Need-same-length-21
+same-length-21 c = checked (asked (answered (joined c))) .check .kept .1 .1 .1 .1 .1 .1 .1 .1 .1 .1 .1 .0
+
+same-length-22 : tie.Need-same-length-22
+same-length-22 c = checked (asked (answered (joined c))) .check .kept .1 .1 .1 .1 .1 .1 .1 .1 .1 .1 .1 .1 .0
 
 returns-2 : tie.Need-returns-2
 returns-2 c =
     let p = joined c in
     let n = answered p in
     let k = asked n in
-    let z = sym (n .number .ensures) ∙ p .before .before .before .before .before .before .before .before .if1 .left in
+    let z = sym (n .number .ensures) ∙ p .before .before .before .before .before .before .before .before .before .before .if1 .left in
     asked-joined _ _ _ _ _ _ _ _ (checked k .check .ensures) _ (k .asked .ensures) z _ _ _ _ _ _ refl _ (p .apply .ensures .0)
     (p .apply .ensures .1)
 
@@ -127,10 +141,10 @@ join-spec =
     same-length-7
     same-length-8
     same-length-9
-    returns
-    apply-requires
     same-length-10
     same-length-11
+    returns
+    apply-requires
     same-length-12
     same-length-13
     same-length-14
@@ -138,4 +152,8 @@ join-spec =
     same-length-16
     same-length-17
     same-length-18
+    same-length-19
+    same-length-20
+    same-length-21
+    same-length-22
     returns-2)

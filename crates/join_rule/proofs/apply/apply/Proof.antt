@@ -7,7 +7,7 @@ use lib.Seq.{length-take-le, length-front}
 use Rattle.point_darts.specs.Dart.{slots}
 use Rattle.paper.specs.Joining.{rest1, rest3}
 use Rattle.paper_laws.proofs.Marks.{within-fits}
-use Rattle.table_lengths.proofs.Tested.{stated-parent, stated-slots}
+use Rattle.table_lengths.proofs.Tested.{stated-names, stated-slots}
 use Rattle.join_darts.specs.Listed.{bounds, Chained}
 use Rattle.join_darts.proofs.Listing.{bounded-all, bounded-on}
 use Rattle.join_rule.proofs.Applying.{all-steps, pair-cleared}
@@ -17,10 +17,13 @@ use Rattle.join_rule.proofs.apply.apply.Tie as tie
 
 -- From each call back to the call before it, and to the start.
 abbrev start : tie.After-list-darts → tie.Start
-start c = c .before .before .before .before .before .before .before .before .before .before
+start c = c .before .before .before .before .before .before .before .before .before .before .before .before
+
+abbrev totalled : tie.After-remove-plain-shared → tie.After-add-totals
+totalled c = c .before .before .before .before .before .before .before .before .before
 
 abbrev listed : tie.After-remove-plain-shared → tie.After-list-darts
-listed c = c .before .before .before .before .before .before .before
+listed c = totalled c .before .before .before .before .before .before .before
 
 abbrev plain : tie.After-narrow → tie.After-remove-plain-shared
 plain c = c .before .before .before .before .before .before .before
@@ -40,10 +43,10 @@ settled c = c .before .before .before .before .before .before .before .before .b
 abbrev backless : tie.After-clear2 → tie.After-clear
 backless c = c .before .before .before .before
 
-abbrev cleared : tie.After-slice-known20 → tie.After-clear2
+abbrev cleared : tie.After-slice-known24 → tie.After-clear2
 cleared c = c .before .before
 
-abbrev end : tie.After-slice-known20 → tie.After-settle
+abbrev end : tie.After-slice-known24 → tie.After-settle
 end c = settled (backless (cleared c))
 
 -- The list is as long as the work table that it stands in.
@@ -79,13 +82,20 @@ work-room c =
 
 list-darts-requires : tie.Need-list-darts-requires
 list-darts-requires c κs =
-    let q = c .before .before .before .before .before .before .before .before .before .pre in
+    let q = c .before .before .before .before .before .before .before .before .before .before .before .pre in
     let z = stated-slots _ _ _ _ (q .sizes) in
     (z .1 .0 ∙ sym (z .1 .1 .1 .1 .1 .0), omega (arith, z .1 .1 .1 .1 .1 .0, within-fits _ _ (q .size)))
 
+add-totals-requires : tie.Need-add-totals-requires
+add-totals-requires c κs =
+    let l = c .before .before .before .before .before .before in
+    let q = start l .pre in
+    let z = stated-slots _ _ _ _ (q .sizes) in
+    (q .size, z .1 .0, list-long l, rw (z .1 .1 .1 .1 .1 .0) at (l .list-darts .ensures), q .sums)
+
 remove-plain-shared-requires : tie.Need-remove-plain-shared-requires
 remove-plain-shared-requires c κs =
-    let l = c .before .before .before .before .before .before in
+    let l = c .before .before .before .before .before .before .before .before .before .before .before .before .before .before .before in
     let q = start l .pre in
     let z = stated-slots _ _ _ _ (q .sizes) in (
       q .size,
@@ -154,7 +164,7 @@ settle-requires c κs =
       p .remove-plain-shared .kept .1 .1 .1 .1 .1 .1 .1 .0 ∙ z .0,
       z .1 .0,
       e .remove-shared .kept .1 .1 .1 .1 .1 .1 .1 .0 ∙ z .1 .1 .0,
-      stated-parent _ _ _ _ (q .sizes),
+      stated-names _ _ _ _ (q .sizes) .0,
       length-take-le _ _ (work-room n) ∙ n .points .ensures,
       narrow-long m,
       list-visits _ _ _ _ _ _ _ (q .still) (rw (list-long l) at (m .narrow .ensures (lined-bounds l))) _ _
@@ -184,6 +194,12 @@ same-length-4 c =
 same-length-5 : tie.Need-same-length-5
 same-length-5 c = end c .settle .kept .1 .1 .1 .1 .1 .1 .1 .1 .1 .1 .0
 
+same-length-6 : tie.Need-same-length-6
+same-length-6 c = totalled (plain (narrowed (curved (sized (end c))))) .add-totals .kept .1 .1 .1 .1 .1 .1 .1 .0
+
+same-length-7 : tie.Need-same-length-7
+same-length-7 c = totalled (plain (narrowed (curved (sized (end c))))) .add-totals .kept .1 .1 .1 .1 .1 .1 .1 .1 .0
+
 -- also that of the reversals, whose front is lent for the tops
 back-kept : (s : tie.After-settle)
     → length (s .settle .last .1 .1 .1 .1 .1 .1 .1 .1 .1 .1 .1 .0
@@ -197,15 +213,15 @@ back-kept s =
     (s .settle .kept .1 .1 .1 .1 .1 .1 .1 .1 .1 .1 .1 .0)
     ∙ p .remove-plain-shared .kept .1 .1 .1 .1 .1 .1 .1 .1 .0
 
-same-length-6 : tie.Need-same-length-6
-same-length-6 c = backless (cleared c) .clear .kept .0 ∙ back-kept (end c)
+same-length-8 : tie.Need-same-length-8
+same-length-8 c = backless (cleared c) .clear .kept .0 ∙ back-kept (end c)
 
 list-kept : (c : tie.After-narrow)
     → length (c .narrow .last .1 .1 .0) ≡ length (start (listed (plain c)) .args .list .now)
 list-kept c = c .narrow .kept .1 .1 .0 ∙ listed (plain c) .list-darts .kept .1 .1 .1 .0
 
-same-length-7 : tie.Need-same-length-7
-same-length-7 c = cleared c .clear2 .kept .0 ∙ list-kept (narrowed (curved (sized (end c))))
+same-length-9 : tie.Need-same-length-9
+same-length-9 c = cleared c .clear2 .kept .0 ∙ list-kept (narrowed (curved (sized (end c))))
 
 returns : tie.Need-returns
 returns c =
@@ -214,9 +230,9 @@ returns c =
     let p = plain (narrowed e) in
     let a = start (listed p) in
     let z = stated-slots _ _ _ _ (a .pre .sizes) in (
-      all-steps _ _ _ _ _ _ _ _ _ (a .pre .first) (a .pre .second) (z .1 .0) (a .pre .sided) _ _ _ _ _ _
+      all-steps _ _ _ _ _ _ _ _ _ _ _ (a .pre .first) (a .pre .second) (z .1 .0) (a .pre .sided) _ _ _ _ _ _ _ _
           (p .remove-plain-shared .ensures) (e .remove-shared .ensures) (s .settle .ensures .0) (s .settle .ensures .1)
-          (s .settle .ensures .2),
+          (s .settle .ensures .2) (totalled p .add-totals .ensures),
       pair-cleared _ _ _ _ _ _ (backless (cleared c) .clear .ensures) (cleared c .clear2 .ensures)
           (back-kept s) (list-kept (narrowed e)),
     )
@@ -226,6 +242,7 @@ apply-spec =
     tie.close
     (tie.spec
     list-darts-requires
+    add-totals-requires
     remove-plain-shared-requires
     narrow-requires
     remove-shared-requires
@@ -243,4 +260,6 @@ apply-spec =
     same-length-5
     same-length-6
     same-length-7
+    same-length-8
+    same-length-9
     returns)

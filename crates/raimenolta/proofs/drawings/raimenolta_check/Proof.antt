@@ -13,16 +13,16 @@ number-requires : tie.Need-number-requires
 number-requires c κs = search needs
 
 same-length : tie.Need-same-length
-same-length c = checked c .check .kept .1 .1 .1 .1 .1 .1 .1 .0
+same-length c = checked c .check .kept .1 .1 .1 .1 .1 .1 .1 .1 .1 .0
 
 same-length-2 : tie.Need-same-length-2
-same-length-2 c = checked c .check .kept .1 .1 .1 .1 .1 .1 .1 .1 .0
+same-length-2 c = checked c .check .kept .1 .1 .1 .1 .1 .1 .1 .1 .1 .1 .0
 
 same-length-3 : tie.Need-same-length-3
-same-length-3 c = checked c .check .kept .1 .1 .1 .1 .1 .1 .1 .1 .1 .0
+same-length-3 c = checked c .check .kept .1 .1 .1 .1 .1 .1 .1 .1 .1 .1 .1 .0
 
 same-length-4 : tie.Need-same-length-4
-same-length-4 c = checked c .check .kept .1 .1 .1 .1 .1 .1 .1 .1 .1 .1 .0
+same-length-4 c = checked c .check .kept .1 .1 .1 .1 .1 .1 .1 .1 .1 .1 .1 .1 .0
 
 returns : tie.Need-returns
 unfolding told

@@ -6,7 +6,7 @@ use Rattle.raimenolta.proofs.drawings.raimenolta_join.Tie as tie
 abbrev joined : tie.After-number → tie.After-join
 joined c =
     let k = c .before .before .before .before .before .before .before .before .before .before in
-    k .before .before .before .before .before .before .before .before .before
+    k .before .before .before .before .before .before .before .before .before .before .before .before .before
 
 join-requires : tie.Need-join-requires
 join-requires c κs = search needs
@@ -30,16 +30,22 @@ same-length-5 : tie.Need-same-length-5
 same-length-5 c = joined c .join .kept .1 .1 .1 .1 .1 .1 .0
 
 same-length-6 : tie.Need-same-length-6
-same-length-6 c = joined c .join .kept .1 .1 .1 .1 .1 .1 .1 .1 .1 .0
+same-length-6 c = joined c .join .kept .1 .1 .1 .1 .1 .1 .1 .0
 
 same-length-7 : tie.Need-same-length-7
-same-length-7 c = joined c .join .kept .1 .1 .1 .1 .1 .1 .1 .1 .1 .1 .0
+same-length-7 c = joined c .join .kept .1 .1 .1 .1 .1 .1 .1 .1 .0
 
 same-length-8 : tie.Need-same-length-8
 same-length-8 c = joined c .join .kept .1 .1 .1 .1 .1 .1 .1 .1 .1 .1 .1 .0
 
 same-length-9 : tie.Need-same-length-9
 same-length-9 c = joined c .join .kept .1 .1 .1 .1 .1 .1 .1 .1 .1 .1 .1 .1 .0
+
+same-length-10 : tie.Need-same-length-10
+same-length-10 c = joined c .join .kept .1 .1 .1 .1 .1 .1 .1 .1 .1 .1 .1 .1 .1 .0
+
+same-length-11 : tie.Need-same-length-11
+same-length-11 c = joined c .join .kept .1 .1 .1 .1 .1 .1 .1 .1 .1 .1 .1 .1 .1 .1 .0
 
 returns : tie.Need-returns
 unfolding told
@@ -62,4 +68,6 @@ raimenolta-join-spec =
     same-length-7
     same-length-8
     same-length-9
+    same-length-10
+    same-length-11
     returns)

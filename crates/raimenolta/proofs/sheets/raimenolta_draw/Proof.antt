@@ -6,7 +6,7 @@ use Rattle.raimenolta.proofs.sheets.raimenolta_draw.Tie as tie
 abbrev drawn : tie.After-number → tie.After-draw
 drawn c =
     let k = c .before .before .before .before .before .before .before .before .before .before in
-    k .before .before .before .before .before .before .before .before .before
+    k .before .before .before .before .before .before .before .before .before .before .before .before .before
 
 draw-requires : tie.Need-draw-requires
 draw-requires c κs = search needs
@@ -41,6 +41,12 @@ same-length-8 c = drawn c .draw .kept .1 .1 .1 .1 .1 .1 .1 .1 .1 .1 .0
 same-length-9 : tie.Need-same-length-9
 same-length-9 c = drawn c .draw .kept .1 .1 .1 .1 .1 .1 .1 .1 .1 .1 .1 .0
 
+same-length-10 : tie.Need-same-length-10
+same-length-10 c = drawn c .draw .kept .1 .1 .1 .1 .1 .1 .1 .1 .1 .1 .1 .1 .0
+
+same-length-11 : tie.Need-same-length-11
+same-length-11 c = drawn c .draw .kept .1 .1 .1 .1 .1 .1 .1 .1 .1 .1 .1 .1 .1 .0
+
 returns : tie.Need-returns
 unfolding told
 returns c =
@@ -62,4 +68,6 @@ raimenolta-draw-spec =
     same-length-7
     same-length-8
     same-length-9
+    same-length-10
+    same-length-11
     returns)
