@@ -4,19 +4,18 @@
 --   totalsAgree ..  == the totals are those counted again
 --   curvesAgree ..  == level 3 and the parents are those that next and side of level 1 tell
 use mathlib.Core.Path.{_≡_, refl, sym, ap, _∙_}
-use mathlib.Core.Bool.{Bool, true, false, not, cond, _&&_}
+use mathlib.Core.Bool.{Bool, true, false, not, _&&_}
 use mathlib.Core.List.{List}
 use Prim.Native.Nat.{ℕ, _+_, _*_, _≤_}
 use native.Mathlib.Omega.{arith}
-use lib.Dec.{eqb}
-use lib.ListN.{take, set}
+use lib.ListN.{take}
 use borrow.Author.Tests.{not-true, not-false}
 use Rattle.laws.specs.Equal.{equal}
 use Rattle.laws.specs.Table.{table}
 use Rattle.laws.proofs.Equal.{equal-iff}
 use Rattle.laws.proofs.Test.{and-left, and-right}
 use Rattle.sheet_size.specs.Size.{within}
-use Rattle.point_darts.specs.Dart.{mark, points, slots}
+use Rattle.point_darts.specs.Dart.{points, slots}
 use Rattle.paper.specs.Name.{names}
 use Rattle.paper.specs.Level.{side, tops}
 use Rattle.paper.specs.Enclosure.{parent}
@@ -29,8 +28,7 @@ use Rattle.level_lines.specs.Line.{nexts}
 use Rattle.level_lines.specs.Side.{sides}
 use Rattle.level_kept.specs.Keep.{keeps}
 use Rattle.level_curves.specs.Link.{TwoWay, alongNext, alongOther}
-use Rattle.region_totals.specs.Tally.{both, Tallied}
-use Rattle.region_totals.proofs.Paper.{tallied-cells, tallied-borders}
+use Rattle.region_totals.specs.Total.{Totalled}
 use Rattle.drawing.specs.Parts.{Lined, Kept, Curved, roundOf, masksOf, linesAgree, totalsAgree, curvesAgree}
 use Rattle.region_names.specs.Frame.{surround}
 use Rattle.drawing.proofs.Whole.{line-next, line-side, curve-runs, curve-next, curve-other, parents-whole}
@@ -47,21 +45,30 @@ last-two-yes false b c e = refl
 pub names-part : (w h : ℕ) → w * h + 1 ≤ slots w h
 names-part w h = omega (arith, cells-slots w h)
 
--- Level 1, drawn again.
-module _ (w h : ℕ) (x s : List ℕ) where
-  pub lines-is-drawing : (t e r m y u : List ℕ) (b : Bool) → t ≡ e → e ≡ recovered w h s
-      → take (surround w h) r ≡ framed w h (names w h t) → Lined w h (take (surround w h) r) m y u
-      → b ≡ (equal x y && equal s u)
-      → (b ≡ linesAgree w h x s) × (take (points w h) m ≡ masksOf w h s) × (take (surround w h) r ≡ roundOf w h s)
-  unfolding linesAgree masksOf roundOf
-  lines-is-drawing t e r m y u b p q f l g =
-      let k : take (surround w h) r ≡ framed w h (names w h (recovered w h s)) =
-      f ∙ ap (λ v. framed w h (names w h v)) (p ∙ q) in
-      let c : y ≡ nexts w h (masked w h (framed w h (names w h (recovered w h s)))) =
-      l .next ∙ ap (λ v. nexts w h (masked w h v)) k in
-      let d : u ≡ sides w h (framed w h (names w h (recovered w h s))) (masked w h (framed w h (names w h (recovered w h s)))) =
-      l .side ∙ ap (λ v. sides w h v (masked w h v)) k in
-      (g ∙ rw (c, d), l .masks ∙ ap (masked w h) k, k)
+-- The names, from the labels that the sides tell.
+pub names-recovered : (w h : ℕ) (s t e r : List ℕ) → t ≡ e → e ≡ recovered w h s → take (surround w h) r ≡ framed w h (names w h t)
+    → take (surround w h) r ≡ roundOf w h s
+unfolding roundOf
+names-recovered w h s t e r p q f = f ∙ ap (λ v. framed w h (names w h v)) (p ∙ q)
+
+-- Level 1, drawn again from the names with the outside round them.
+pub lines-is-drawing : (w h : ℕ) (x s r m y u : List ℕ) (b : Bool) → take (surround w h) r ≡ roundOf w h s
+    → Lined w h (take (surround w h) r) m y u → b ≡ (equal x y && equal s u)
+    → (b ≡ linesAgree w h x s) × (take (points w h) m ≡ masksOf w h s)
+unfolding linesAgree masksOf
+lines-is-drawing w h x s r m y u b k l g =
+    let c : y ≡ nexts w h (masked w h (roundOf w h s)) = l .next ∙ ap (λ v. nexts w h (masked w h v)) k in
+    let d : u ≡ sides w h (roundOf w h s) (masked w h (roundOf w h s)) = l .side ∙ ap (λ v. sides w h v (masked w h v)) k in
+    (g ∙ rw (c, d), l .masks ∙ ap (masked w h) k)
+
+-- The totals, counted again from them.
+pub totals-is-drawing : (w h : ℕ) (f x y u v e g : List ℕ) (b : Bool) → Totalled w h f e g → u ≡ e → v ≡ g
+    → b ≡ (equal x u && equal y v) → (s : List ℕ) → f ≡ roundOf w h s → b ≡ totalsAgree w h s x y
+unfolding totalsAgree roundOf
+totals-is-drawing w h f x y u v e g b t p q i s k =
+    let c = p ∙ t .cells (recovered w h s) k in
+    let d = q ∙ t .borders (recovered w h s) k in
+    i ∙ rw (c, d)
 
 -- Level 3 and the parents, from level 1.
 module _ (w h : ℕ) (x s y o p m a c v u : List ℕ) (g : Kept w h s m a c) (k : Curved w h x (take (points w h) c) v u) where
@@ -86,28 +93,6 @@ module _ (w h : ℕ) (x s y o p m a c v u : List ℕ) (g : Kept w h s m a c) (k 
       let q : t ≡ (equal y (alongNext w h x (keeps w h m top)) && equal o (alongOther w h x (keeps w h m top))) =
       e ∙ rw (k .next, k .other, kept-points) in
       rw (← q, not-false t n) (z ∙ rw (i, j, g .tops))
-
--- The totals, counted again from the names with the outside round them.
-module _ (w h n : ℕ) (z : n ≡ points w h) (a c b x y : List ℕ)
-    (t : Tallied w (points w h) (take (surround w h) a) (points w h) c b) where
-  module _ (u e : List ℕ) (p : u ≡ e) (q : e ≡ set (table (w * h + 1) (λ r. cond (eqb (both n c r) 0) mark (both n c r))) 0 0) where
-    cells-counted : (s : List ℕ) → take (surround w h) a ≡ roundOf w h s → u ≡ drawn w h (names w h (recovered w h s)) .cells
-    unfolding roundOf
-    cells-counted s f = p ∙ rw z at q ∙ tallied-cells w h (recovered w h s) c b (rw f at t)
-
-    pub cells-no : (b : Bool) → b ≡ equal x u → not b ≡ true → (s : List ℕ) → take (surround w h) a ≡ roundOf w h s
-        → false ≡ totalsAgree w h s x y
-    unfolding totalsAgree
-    cells-no b i j s f = rw (← cells-counted s f, ← i, not-true b j)
-
-    pub cells-yes : (k : Bool) → k ≡ equal x u → not k ≡ false → (v g : List ℕ) → v ≡ g
-        → g ≡ table (w * h + 1) (λ r. cond (eqb (both n c r) 0) mark (both n b r)) → (d : Bool) → d ≡ equal y v
-        → (s : List ℕ) → take (surround w h) a ≡ roundOf w h s → d ≡ totalsAgree w h s x y
-    unfolding totalsAgree roundOf
-    cells-yes k i j v g l m d o s f =
-        let r : v ≡ drawn w h (names w h (recovered w h s)) .borders =
-        l ∙ rw z at m ∙ tallied-borders w h (recovered w h s) c b (rw f at t) in
-        rw (← cells-counted s f, ← r, ← i, not-false k j) o
 
 -- Level 1 agrees with what is drawn from the labels that the sides tell.
 module _ (w h : ℕ) (x s : List ℕ) where
@@ -146,6 +131,20 @@ module _ (w h : ℕ) (t : Tables) (e : within w h ≡ true) where
   abbrev named : List ℕ
   named = names w h (recovered w h (t .side1))
 
+  links : Bool
+  links =
+      equal (t .next1) (drawn w h named .next1) && equal (t .side1) (drawn w h named .side1)
+      && equal (t .next3) (drawn w h named .next3)
+      && equal (t .other3) (drawn w h named .other3)
+      && equal (t .parent) (drawn w h named .parent)
+
+  pub totals-no : (c : Bool) → c ≡ totalsAgree w h (t .side1) (t .cells) (t .borders) → not c ≡ true → false ≡ isDrawing w h t
+  unfolding isDrawing same drawing totalsAgree links
+  totals-no c i j =
+      sym
+      (last-two-no links (equal (t .cells) (drawn w h named .cells)) (equal (t .borders) (drawn w h named .borders))
+      (sym i ∙ not-true c j))
+
   pub is-drawing-no : (b : Bool) → b ≡ linesAgree w h (t .next1) (t .side1) → not b ≡ true → false ≡ isDrawing w h t
   unfolding isDrawing same drawing
   is-drawing-no b f g = let z = sym (lines-drawn w h (t .next1) (t .side1)) ∙ sym f ∙ not-true b g in rw z
@@ -177,25 +176,11 @@ module _ (w h : ℕ) (t : Tables) (e : within w h ≡ true) where
         ap (λ v. table (w * h + 1) (parent w (on v) (at v) (tops w h (on v)))) side-drawn ∙ parents-whole w h named room small in
         λ l. equal (t .next3) (i l) && equal (t .other3) (j l) && equal (t .parent) (q l)
 
-    links : Bool
-    links =
-        equal (t .next1) (drawn w h named .next1) && equal (t .side1) (drawn w h named .side1)
-        && equal (t .next3) (drawn w h named .next3)
-        && equal (t .other3) (drawn w h named .other3)
-        && equal (t .parent) (drawn w h named .parent)
-
     links-are : links
         ≡ (equal (t .next3) (drawn w h named .next3) && equal (t .other3) (drawn w h named .other3)
         && equal (t .parent) (drawn w h named .parent))
     unfolding links
     links-are = rw (agreed w h (t .next1) (t .side1) lines)
-
-    pub totals-no : (c : Bool) → c ≡ totalsAgree w h (t .side1) (t .cells) (t .borders) → not c ≡ true → false ≡ isDrawing w h t
-    unfolding isDrawing same drawing totalsAgree links
-    totals-no c i j =
-        sym
-        (last-two-no links (equal (t .cells) (drawn w h named .cells)) (equal (t .borders) (drawn w h named .borders))
-        (sym i ∙ not-true c j))
 
     pub is-drawing-yes : (c : Bool) → c ≡ totalsAgree w h (t .side1) (t .cells) (t .borders) → not c ≡ false → (r : Bool) (m : List ℕ)
         → m ≡ masksOf w h (t .side1) → r ≡ curvesAgree w h (t .next1) (t .side1) (t .next3) (t .other3) (t .parent) m

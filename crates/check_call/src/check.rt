@@ -40,10 +40,20 @@ fn is_drawing(
         (now (cells .entry)) (now (borders .entry)))
         ⌝ }
 {
-    if !agree::lines_agree(width, height, next1, side1, work_a, work_b, work_c, work_d) {
+    agree::recover_names(width, height, side1, work_a, work_b, work_c);
+    if !agree::totals_agree(
+        width,
+        height,
+        cells,
+        borders,
+        work_a,
+        work_b,
+        work_c,
+        work_d,
+    ) {
         return false;
     }
-    if !agree::totals_agree(width, height, cells, borders, work_a, work_c, work_d) {
+    if !agree::lines_agree(width, height, next1, side1, work_a, work_b, work_c, work_d) {
         return false;
     }
     agree::curves_agree(

@@ -27,7 +27,8 @@ use Rattle.level_curves.proofs.Paper.{keeps-paper, alongNext-paper, alongOther-
 use Rattle.region_parents.specs.Tops.{Rising}
 use Rattle.region_parents.proofs.Rise.{tops-rising as rising}
 use Rattle.table_lengths.specs.Given.{tables}
-use Rattle.drawing.specs.Parts.{Lined, Kept, Curved, Totalled}
+use Rattle.region_totals.specs.Total.{Totalled}
+use Rattle.drawing.specs.Parts.{Lined, Kept, Curved}
 use Rattle.region_names.specs.Frame.{surround}
 
 pub tables-path : (x s y o p c b : List ℕ) (t : Tables) → x ≡ t .next1 → s ≡ t .side1 → y ≡ t .next3 → o ≡ t .other3

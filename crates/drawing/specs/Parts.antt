@@ -2,7 +2,6 @@
 --   Lined ..        == level 1 is drawn from the names f with the outside round them: masks, next and side
 --   Kept ..         == the points that level 3 keeps are found, from the sides of level 1 and its masks: tops and kept points
 --   Curved ..       == level 3 is drawn from level 1 next and the kept points
---   Totalled ..     == the totals are found, from the names f with the outside round them
 use mathlib.Core.Path.{_≡_}
 use mathlib.Core.Bool.{Bool, _&&_}
 use mathlib.Core.List.{List}
@@ -35,10 +34,6 @@ pub record Kept (w h : ℕ) (s m t k : List ℕ) : Type 0 where
 pub record Curved (w h : ℕ) (x k y o : List ℕ) : Type 0 where
   pub next : y ≡ alongNext w h x k
   pub other : o ≡ alongOther w h x k
-
-pub record Totalled (w h : ℕ) (f c b : List ℕ) : Type 0 where
-  pub cells : (l : List ℕ) → f ≡ framed w h (names w h l) → c ≡ drawn w h (names w h l) .cells
-  pub borders : (l : List ℕ) → f ≡ framed w h (names w h l) → b ≡ drawn w h (names w h l) .borders
 
 -- The test of refusal 5, part by part: labels are recovered from the sides of level 1, and all is drawn again from them.
 --   roundOf w h s   == the names of these labels, with the outside round them

@@ -80,7 +80,7 @@ pub fn draw(
     }
     names::name_cells(width, height, sheet, work_a, work_b);
     parts::draw_lines(width, height, work_b, work_a, next1, side1);
-    parts::draw_totals(width, height, work_b, work_c, work_d, cells, borders);
+    parts::draw_totals(width, height, work_b, cells, borders, work_c);
     parts::keep_points(width, height, side1, work_a, work_b, work_c);
     parts::draw_curves(width, height, next1, work_c, next3, other3);
     parts::draw_parents(width, height, side1, work_b, parent);

@@ -6,7 +6,6 @@ use level_masks::mask;
 use level_pieces::points;
 use point_darts::dart;
 use region_parents::parent;
-use region_totals::tally;
 use region_totals::total;
 ghost use mathlib.Core.Path.{_≡_};
 ghost use mathlib.Core.Bool.{true};
@@ -19,9 +18,10 @@ ghost use Rattle.paper.specs.Enclosure.{parent};
 ghost use Rattle.paper.specs.Joining.{at, on};
 ghost use Rattle.region_names.specs.Frame.{surround};
 ghost use Rattle.region_totals.specs.Tally.{Named};
+ghost use Rattle.region_totals.specs.Total.{Totalled};
 ghost use Rattle.level_curves.specs.Link.{TwoWay};
 ghost use Rattle.region_parents.specs.Tops.{Rising};
-ghost use Rattle.drawing.specs.Parts.{Lined, Kept, Curved, Totalled};
+ghost use Rattle.drawing.specs.Parts.{Lined, Kept, Curved};
 
 // Level 1 from these names: the masks of the points at the front of a work table, next and side.
 pub fn draw_lines(
@@ -97,31 +97,27 @@ pub fn draw_curves(
     link::links(width, height, next1, &kept[..n], next3, other3);
 }
 
-// The totals of each name, from the names with the outside round them. Two tables are work.
+// The totals of each name, from the names with the outside round them. Odd is work.
 pub fn draw_totals(
     width: u16,
     height: u16,
     round: &[u16],
-    a: &mut [u16],
-    b: &mut [u16],
     cells: &mut [u16],
     borders: &mut [u16],
+    odd: &mut [u16],
 )
     requires { ⌜
         (within width height ≡ true) × (length (now round) ≡ slots width height) ×
-        Named (points width height) (take (surround width height) (now round)) ×
-        (length (now a) ≡ slots width height) × (length (now b) ≡ slots width height) ×
-        (length (now cells) ≡ width * height + 1) × (length (now borders) ≡ width * height + 1)
+        Named (width * height + 1) (take (surround width height) (now round)) ×
+        (length (now cells) ≡ width * height + 1) × (length (now borders) ≡ width * height + 1) ×
+        (length (now odd) ≡ slots width height)
         ⌝ }
     ensures { λ _. ⌜
         Totalled width height (take (surround width height) (now (round .entry))) (now (cells .exit)) (now (borders .exit))
         ⌝ }
 {
-    let n = dart::points(width, height) as usize;
-    let around = n + width as usize + 2;
-    tally::tally(width, height, &round[..around], a, b);
-    total::cell_totals(n, a, cells);
-    total::border_totals(n, a, b, borders);
+    let around = dart::points(width, height) as usize + width as usize + 2;
+    total::totals(width, height, &round[..around], cells, borders, odd);
 }
 
 // The parents, from the sides of level 1 and the tops of its pieces.

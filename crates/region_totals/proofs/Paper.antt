@@ -2,6 +2,7 @@
 -- how many border lines each region has.
 --   g i             == the name at place i, with the outside round the names
 --   tallied-borders == the totals of border lines, from a tally of all points; tallied-cells likewise
+--   totals-all      == so the tables are the totals of the drawing
 use mathlib.Core.Path.{_≡_, refl, sym, ap, ap₂, _∙_}
 use mathlib.Core.Bool.{Bool, true, false, not, cond, _&&_, and-true, and-false}
 use mathlib.Core.List.{List}
@@ -12,7 +13,7 @@ use native.Mathlib.Decide.{ℕ-discrete, decLt}
 use native.Mathlib.Numerals.{add-one}
 use native.Mathlib.Omega.{arith}
 use lib.Dec.{eqb, lit<}
-use lib.ListN.{getD, set, length-set}
+use lib.ListN.{length, getD, set, length-set}
 use lib.Seq.{getD-set-same, getD-set-other}
 use borrow.Author.Tests.{eq-eqb, ne-eqb}
 use Rattle.laws.specs.Table.{table, number, count}
@@ -37,8 +38,9 @@ use Rattle.paper_laws.proofs.Added.{length-totals, at-totals}
 use Rattle.paper_laws.proofs.Outside.{outside-cells}
 use Rattle.region_names.specs.Frame.{surround, framed}
 use Rattle.region_names.proofs.Surround.{named-at, framed-at, cells-framed, outside-north, outside-west, outside-south}
-use Rattle.region_totals.proofs.Tallying.{cells-points}
-use Rattle.region_totals.specs.Tally.{nameAt, linesAt, weighed, both, Named, Tallied}
+use Rattle.region_totals.proofs.Adding.{cellsUp, linesUp}
+use Rattle.region_totals.specs.Tally.{nameAt, linesAt, weighed, borneIn, linedIn, Named, Tallied}
+use Rattle.region_totals.specs.Total.{Totalled}
 
 -- Sums by name as counts.
 weighed-ones : (v : ℕ → ℕ) (r n : ℕ) → weighed v (λ _. 1) r n ≡ count n (λ p. eqb (v p) r)
@@ -98,12 +100,12 @@ module _ (w h : ℕ) (s : List ℕ) where
   unfolding framed
   past i l = getD-table-past (surround w h) (named-at w h n) i 0 l
 
-  pub framed-below : Named (points w h) (framed w h (names w h s))
+  pub framed-below : Named (w * h + 1) (framed w h (names w h s))
   framed-below i = go (decLt i (surround w h))
     where
-      go : Dec (i < surround w h) → g i < points w h
-      go (yes l) = rw (framed-at w h n i l) (omega (arith, named-le w h n (name-le w h s) (i % (w + 1)) (i / (w + 1)), cells-points w h))
-      go (no l) = rw (past i (omega arith)) (omega (arith, cells-points w h))
+      go : Dec (i < surround w h) → g i < w * h + 1
+      go (yes l) = rw (framed-at w h n i l) (omega (arith, named-le w h n (name-le w h s) (i % (w + 1)) (i / (w + 1))))
+      go (no l) = rw (past i (omega arith)) (omega arith)
 
   front : (i : ℕ) → i ≤ w + 1 → g i ≡ 0
   front i l = go (ℕ-discrete i (w + 1))
@@ -215,57 +217,64 @@ module _ (w h : ℕ) (s : List ℕ) where
         ) (omega arith))
 
   -- The totals, from a tally of all points.
-  module _ (c b : List ℕ) (t : Tallied w (points w h) (framed w h (names w h s)) (points w h) c b) where
-    below : (r : ℕ) → r < w * h + 1 → r < points w h
-    below r l = omega (arith, cells-points w h)
-
-    outside-some : both (points w h) c 0 ≢ 0
+  module _ (c b o : List ℕ) (t : Tallied w (w * h + 1) (points w h) (framed w h (names w h s)) (points w h) c b o) where
+    outside-some : borneIn c o 0 ≢ 0
     outside-some e =
         count-some (λ p. eqb (nameAt w f p) 0) (points w h) w (let l = row-fit w h in omega arith) here
-        (sym (weighed-ones (nameAt w f) 0 (points w h)) ∙ sym (t .cells 0 (below 0 (omega arith))) ∙ e)
+        (sym (weighed-ones (nameAt w f) 0 (points w h)) ∙ sym (t .cells 0 (omega arith)) ∙ e)
       where
         here : eqb (nameAt w f w) 0 ≡ true
         here =
             let p : nameAt w f w ≡ named w h n (suc w) 1 = rw (zero-mul (w + 1), zero-add w) at (name-here w 0 (le-refl w) (omega arith)) in
             eq-eqb (nameAt w f w) 0 (p ∙ named-east w h n (suc w) 1 (le-refl (suc w)))
 
-    entry : (r : ℕ) → r < w * h + 1
-        → cond (eqb (both (points w h) c r) 0) mark (both (points w h) b r) ≡ total (cellsOf w h n) (bordersOf w h n) r
-    unfolding total
-    entry zero l =
-        rw (ne-eqb (both (points w h) c 0) 0 outside-some) (t .borders 0 (below 0 l) ∙ weighed-borders 0)
-    entry (suc i) l =
-        rw (
-          t .cells (suc i) (below (suc i) l),
-          weighed-cells i,
-          t .borders (suc i) (below (suc i) l),
-          weighed-borders (suc i),
-        )
+    abbrev lines : ℕ → ℕ
+    lines r = cond (eqb (borneIn c o r) 0) mark (linedIn (w * h + 1) b o r)
 
-    pub tallied-borders : table (w * h + 1) (λ r. cond (eqb (both (points w h) c r) 0) mark (both (points w h) b r))
-        ≡ drawn w h (names w h s) .borders
+    entry : (r : ℕ) → r < w * h + 1 → lines r ≡ total (cellsOf w h n) (bordersOf w h n) r
+    unfolding total
+    entry zero l = rw (ne-eqb (borneIn c o 0) 0 outside-some) (t .borders 0 l ∙ weighed-borders 0)
+    entry (suc i) l = rw (t .cells (suc i) l, weighed-cells i, t .borders (suc i) l, weighed-borders (suc i))
+
+    tallied-borders : table (w * h + 1) lines ≡ drawn w h n .borders
     unfolding drawn totals
-    tallied-borders =
-        table-agree (w * h + 1) (λ r. cond (eqb (both (points w h) c r) 0) mark (both (points w h) b r))
-        (total (cellsOf w h n) (bordersOf w h n)) entry
+    tallied-borders = table-agree (w * h + 1) lines (total (cellsOf w h n) (bordersOf w h n)) entry
 
     abbrev counted : List ℕ
-    counted = table (w * h + 1) (λ r. cond (eqb (both (points w h) c r) 0) mark (both (points w h) c r))
+    counted = table (w * h + 1) (cellsUp c o)
 
     cell-entry : (r : ℕ) → r < w * h + 1 → at (set counted 0 0) r ≡ total (cellsOf w h n) (cellsOf w h n) r
     unfolding total at
-    cell-entry zero l =
-        getD-set-same counted 0 0 mark (rw (length-table (w * h + 1) _) l) ∙ sym (outside-cells w h s)
+    cell-entry zero l = getD-set-same counted 0 0 mark (rw (length-table (w * h + 1) _) l) ∙ sym (outside-cells w h s)
     cell-entry (suc i) l =
         getD-set-other counted 0 (suc i) 0 mark (λ e. omega arith)
-        ∙ getD-table (w * h + 1) (λ r. cond (eqb (both (points w h) c r) 0) mark (both (points w h) c r)) (suc i) mark l
-        ∙ rw (t .cells (suc i) (below (suc i) l), weighed-cells i)
+        ∙ getD-table (w * h + 1) (cellsUp c o) (suc i) mark l
+        ∙ rw (t .cells (suc i) l, weighed-cells i)
 
-    pub tallied-cells : set (table (w * h + 1) (λ r. cond (eqb (both (points w h) c r) 0) mark (both (points w h) c r))) 0 0
-        ≡ drawn w h (names w h s) .cells
+    tallied-cells : set counted 0 0 ≡ drawn w h n .cells
     unfolding drawn
     tallied-cells =
         same-at (w * h + 1) (set counted 0 0) (totals w h (cellsOf w h n) (cellsOf w h n))
         (length-set counted 0 0 ∙ length-table (w * h + 1) _)
         (length-totals w h (cellsOf w h n) (cellsOf w h n))
         (λ r l. cell-entry r l ∙ sym (at-totals w h (cellsOf w h n) (cellsOf w h n) r (omega arith)))
+
+-- The tables, from a tally of all points by any names f.
+module _ (w h m n : ℕ) (f c b o c₁ b₁ : List ℕ) (t : Tallied w m n f n c b o) (p : n ≡ points w h) (z : m ≡ w * h + 1)
+    (k : length c ≡ m) (u : c₁ ≡ table (length c) (cellsUp c o)) (v : b₁ ≡ table (length c) (linesUp c b o)) where
+  module _ (l : List ℕ) (e : f ≡ framed w h (names w h l)) where
+    told : Tallied w (w * h + 1) (points w h) (framed w h (names w h l)) (points w h) c b o
+    told = rw (← p, ← z, ← e) t
+
+    long : length c ≡ w * h + 1
+    long = k ∙ z
+
+    cells-all : set c₁ 0 0 ≡ drawn w h (names w h l) .cells
+    cells-all = rw (u, long) (tallied-cells w h l c b o told)
+
+    borders-all : b₁ ≡ drawn w h (names w h l) .borders
+    borders-all =
+        v ∙ ap (λ j. table j (λ r. cond (eqb (borneIn c o r) 0) mark (linedIn j b o r))) long ∙ tallied-borders w h l c b o told
+
+  pub totals-all : Totalled w h f (set c₁ 0 0) b₁
+  totals-all = record { cells = cells-all; borders = borders-all }

@@ -1,24 +1,24 @@
 -- The tally, point by point.
---   both n t r      == the two entries of the name r in the table t, added up
---   Tallied w n f i c b == the tables c and b have the cells and the lines of the points below i, by name
+--   borneIn c o r   == the cells of the name r, in the tables c and o
+--   linedIn m b o r == the lines of the name r, in the tables b and o
+--   Tallied w m n f i c b o == the tables c, b and o have the cells and the lines of the points below i, by name
 use mathlib.Core.Path.{_≡_, refl, sym, ap, _∙_}
 use mathlib.Core.Bool.{Bool, true, false, not, cond}
 use mathlib.Core.List.{List, _++_}
-use mathlib.Core.Logic.{_⊎_, ⊎-elim}
 use Prim.Native.Nat.{ℕ, zero, suc, _+_, _*_, _≤_, _<_}
-use native.Mathlib.Nat.{le-add-right, le-add-left, mul-suc, add-mul, not-suc-le-zero}
+use native.Mathlib.Nat.{mul-suc, add-mul, not-suc-le-zero}
 use native.Mathlib.Decide.{ℕ-discrete}
 use native.Mathlib.Numerals.{add-one}
 use native.Mathlib.Omega.{arith}
 use lib.Dec.{eqb}
-use lib.ListN.{length, getD, set, take, drop, replicate, length-set}
+use lib.ListN.{length, getD, set, take, drop, replicate, length-set, length-replicate, getD-replicate}
 use lib.Seq.{getD-set-same, getD-set-other}
 use borrow.Author.Tests.{eq-eqb, ne-eqb}
 use Rattle.laws.proofs.Count.{number-below}
 use Rattle.sheet_size.specs.Size.{within}
 use Rattle.point_darts.specs.Dart.{mark, points, slots}
 use Rattle.paper_laws.proofs.Marks.{slots-most}
-use Rattle.region_totals.specs.Tally.{nameAt, linesAt, weighed, both, Place, Small, Ruled, Tallied}
+use Rattle.region_totals.specs.Tally.{nameAt, linesAt, weighed, borneIn, linedIn, Small, Ruled, Tallied}
 
 -- Sums are small.
 pub lines-most : (w : ℕ) (f : List ℕ) (p : ℕ) → linesAt w f p ≤ 4
@@ -39,165 +39,164 @@ weighed-most v k m l r (suc i) = go (eqb (v i) r) (weighed-most v k m l r i)
     go true e = rw (mul-suc m i) (omega (arith, l i))
     go false e = rw (mul-suc m i) (omega arith)
 
--- An amount more in one of the two entries of the name v.
-module _ (n : ℕ) (t : List ℕ) (v a : ℕ) (b : v < n) (long : length t ≡ 4 * n) where
-  first-more : (r : ℕ) → r < n → both n (set t v (getD t v 0 + a)) r ≡ cond (eqb v r) a 0 + both n t r
-  first-more r l = go (ℕ-discrete v r)
-    where
-      go : Dec (v ≡ r) → both n (set t v (getD t v 0 + a)) r ≡ cond (eqb v r) a 0 + both n t r
-      go (yes e) =
-          rw (
-            eq-eqb v r e,
-            ← e,
-            getD-set-same t v (getD t v 0 + a) 0 (omega arith),
-            getD-set-other t v (n + v) (getD t v 0 + a) 0 (λ q. omega arith),
-          )
-          (omega arith)
-      go (no e) =
-          rw (
-            ne-eqb v r e,
-            getD-set-other t v r (getD t v 0 + a) 0 (λ q. e (sym q)),
-            getD-set-other t v (n + r) (getD t v 0 + a) 0 (λ q. omega arith),
-          )
-          (omega arith)
+-- An amount more in an entry: what it and the others become.
+entry-more : (t : List ℕ) (v a r : ℕ) → v < length t → getD (set t v (getD t v 0 + a)) r 0 ≡ cond (eqb v r) a 0 + getD t r 0
+entry-more t v a r l = go (ℕ-discrete v r)
+  where
+    go : Dec (v ≡ r) → getD (set t v (getD t v 0 + a)) r 0 ≡ cond (eqb v r) a 0 + getD t r 0
+    go (yes e) = rw (eq-eqb v r e, ← e, getD-set-same t v (getD t v 0 + a) 0 l) (omega arith)
+    go (no e) = rw (ne-eqb v r e, getD-set-other t v r (getD t v 0 + a) 0 (λ q. e (sym q))) (omega arith)
 
-  second-more : (r : ℕ) → r < n → both n (set t (n + v) (getD t (n + v) 0 + a)) r ≡ cond (eqb v r) a 0 + both n t r
-  second-more r l = go (ℕ-discrete v r)
-    where
-      go : Dec (v ≡ r) → both n (set t (n + v) (getD t (n + v) 0 + a)) r ≡ cond (eqb v r) a 0 + both n t r
-      go (yes e) =
-          rw (
-            eq-eqb v r e,
-            ← e,
-            getD-set-same t (n + v) (getD t (n + v) 0 + a) 0 (omega arith),
-            getD-set-other t (n + v) v (getD t (n + v) 0 + a) 0 (λ q. omega arith),
-          )
-          (omega arith)
-      go (no e) =
-          rw (
-            ne-eqb v r e,
-            getD-set-other t (n + v) r (getD t (n + v) 0 + a) 0 (λ q. omega arith),
-            getD-set-other t (n + v) (n + r) (getD t (n + v) 0 + a) 0 (λ q. omega arith),
-          )
-          (omega arith)
+-- two numbers with as much added to each
+same-shifted : (m v r : ℕ) → eqb (m + v) (m + r) ≡ eqb v r
+same-shifted m v r = go (ℕ-discrete v r)
+  where
+    go : Dec (v ≡ r) → eqb (m + v) (m + r) ≡ eqb v r
+    go (yes e) = rw (eq-eqb v r e) (eq-eqb (m + v) (m + r) (ap (λ k. m + k) e))
+    go (no e) = rw (ne-eqb v r e) (ne-eqb (m + v) (m + r) (λ q. e (omega arith)))
 
-  module _ (m x : ℕ) (s : Place n m) (e : x ≡ m + v) where
-    pub place-below : x < 2 * n
-    place-below = ⊎-elim (λ p. omega arith) (λ p. omega arith) s
+-- A point more. The name of its cell is below m.
+module _ (w m n : ℕ) (f : List ℕ) (i : ℕ) (c b o : List ℕ) (t : Tallied w m n f i c b o) where
+  abbrev x : ℕ
+  x = nameAt w f i
 
-    pub place-part : getD t x 0 ≤ both n t v
-    place-part =
-        ⊎-elim
-        (λ p. let q : x ≡ v = omega arith in rw q (le-add-right (getD t v 0) (getD t (n + v) 0)))
-        (λ p. let q : x ≡ n + v = omega arith in rw q (le-add-left (getD t (n + v) 0) (getD t v 0)))
-        s
+  module _ (v : nameAt w f i < m) where
+    -- the entries of the name have room for it
+    pub room-cells : borneIn c o (nameAt w f i) ≤ i
+    room-cells = omega (arith, t .cells x v, weighed-most (nameAt w f) (λ _. 1) 1 (λ p. omega arith) x i)
 
-    entry-more : (r : ℕ) → r < n → both n (set t x (getD t x 0 + a)) r ≡ cond (eqb v r) a 0 + both n t r
-    entry-more r l =
-        ⊎-elim
-        (λ p. let q : x ≡ v = omega arith in rw q (first-more r l))
-        (λ p. let q : x ≡ n + v = omega arith in rw q (second-more r l))
-        s
+    pub room-lines : linedIn m b o (nameAt w f i) ≤ 4 * i
+    room-lines = omega (arith, t .borders x v, weighed-most (nameAt w f) (linesAt w f) 4 (lines-most w f) x i)
 
-    entry-past : (p : ℕ) → getD (set t x (getD t x 0 + a)) (2 * n + p) 0 ≡ getD t (2 * n + p) 0
-    entry-past p = getD-set-other t x (2 * n + p) (getD t x 0 + a) 0 (λ q. omega (arith, place-below))
+    abbrev once : List ℕ
+    once = set o x (getD o x 0 + 1)
 
-module _ (w n : ℕ) (f c b : List ℕ) where
-  -- before the first point
-  pub tallied-none : (r : Ruled w n f n b) → ((i : ℕ) → i < n → both n c i ≡ 0) → length c ≡ 4 * n → Tallied w n f 0 c b
-  unfolding weighed
-  tallied-none r z p = record { cells = z; borders = r .clear; lines = r .lines; long-cells = p; long-borders = r .long }
+    past : (j : ℕ) → m ≤ j → getD once j 0 ≡ getD o j 0
+    past j l = getD-set-other o x j (getD o x 0 + 1) 0 (λ q. omega arith)
 
-  module _ (i : ℕ) (t : Tallied w n f i c b) (v : nameAt w f i < n) (m x : ℕ) (s : Place n m) (e : x ≡ m + nameAt w f i) where
-    -- the entries of a point's name have room for it
-    pub room-cells : getD c x 0 ≤ i
-    room-cells =
-        omega (
-          arith,
-          place-part n c (nameAt w f i) 0 v (t .long-cells) m x s e,
-          t .cells (nameAt w f i) v,
-          weighed-most (nameAt w f) (λ _. 1) 1 (λ p. omega arith) (nameAt w f i) i,
-        )
+    pub room-past : getD (set o (nameAt w f i) (getD o (nameAt w f i) 0 + 1)) (m + nameAt w f i) 0 ≤ 4 * i
+    room-past = rw (past (m + x) (omega arith)) (omega (arith, room-lines))
 
-    pub room-borders : getD b x 0 ≤ 4 * i
-    room-borders =
-        omega (
-          arith,
-          place-part n b (nameAt w f i) 0 v (t .long-borders) m x s e,
-          t .borders (nameAt w f i) v,
-          weighed-most (nameAt w f) (linesAt w f) 4 (lines-most w f) (nameAt w f i) i,
-        )
+    module _ (k : ℕ) (g : k ≡ linesAt w f i) where
+      -- an even one
+      pub even-more : Tallied w m n f (i + 1) (set c (nameAt w f i) (getD c (nameAt w f i) 0 + 1))
+          (set b (nameAt w f i) (getD b (nameAt w f i) 0 + k)) o
+      unfolding weighed
+      even-more =
+          record {
+            cells = λ r l.
+                rw (add-one i) (omega (arith, entry-more c x 1 r (omega (arith, t .long-cells)), t .cells r l));
+            borders = λ r l.
+                rw (add-one i, ← g) (omega (arith, entry-more b x k r (omega (arith, t .long-borders)), t .borders r l));
+            lines = t .lines;
+            long-cells = length-set c x (getD c x 0 + 1) ∙ t .long-cells;
+            long-borders = length-set b x (getD b x 0 + k) ∙ t .long-borders;
+            long-odd = t .long-odd;
+          }
 
-    -- a point more
-    pub tallied-more : (k : ℕ) → k ≡ linesAt w f i
-        → Tallied w n f (i + 1) (set c x (getD c x 0 + 1)) (set b x (getD b x 0 + k))
-    unfolding weighed
-    tallied-more k g =
-        record {
-          cells = λ r l.
-              rw (add-one i)
-              (entry-more n c (nameAt w f i) 1 v (t .long-cells) m x s e r l
-              ∙ ap (λ u. cond (eqb (nameAt w f i) r) 1 0 + u) (t .cells r l));
-          borders = λ r l.
-              rw (add-one i, g)
-              (entry-more n b (nameAt w f i) (linesAt w f i) v (t .long-borders) m x s e r l
-              ∙ ap (λ u. cond (eqb (nameAt w f i) r) (linesAt w f i) 0 + u) (t .borders r l));
-          lines = λ p l. entry-past n b (nameAt w f i) k v (t .long-borders) m x s e p ∙ t .lines p l;
-          long-cells = length-set c x (getD c x 0 + 1) ∙ t .long-cells;
-          long-borders = length-set b x (getD b x 0 + k) ∙ t .long-borders;
-        }
+      -- an odd one
+      module _ (fits : m ≤ n) where
+        abbrev twice : List ℕ
+        twice = set once (m + x) (getD once (m + x) 0 + k)
 
-  -- after all points no two entries of a name are too large to be added
-  module _ (t : Tallied w n f n c b) (fits : 4 * n < mark) where
-    pub small-cells : Small n c
-    small-cells r l =
-        omega (arith, t .cells r l, weighed-most (nameAt w f) (λ _. 1) 1 (λ p. omega arith) r n)
+        once-long : length once ≡ 4 * n
+        once-long = length-set o x (getD o x 0 + 1) ∙ t .long-odd
 
-    pub small-borders : Small n b
-    small-borders r l =
-        omega (arith, t .borders r l, weighed-most (nameAt w f) (linesAt w f) 4 (lines-most w f) r n)
+        kept : (j : ℕ) → getD twice (m + j) 0 ≡ cond (eqb x j) k 0 + getD o (m + j) 0
+        kept j =
+            entry-more once (m + x) k (m + j) (omega (arith, once-long))
+            ∙ rw (same-shifted m x j, past (m + j) (omega arith))
+
+        borne : (r : ℕ) → r < m → getD twice r 0 ≡ cond (eqb x r) 1 0 + getD o r 0
+        borne r l =
+            getD-set-other once (m + x) r (getD once (m + x) 0 + k) 0 (λ q. omega arith)
+            ∙ entry-more o x 1 r (omega (arith, t .long-odd))
+
+        ruled : (p : ℕ) → getD twice (2 * m + p) 0 ≡ getD o (2 * m + p) 0
+        ruled p =
+            getD-set-other once (m + x) (2 * m + p) (getD once (m + x) 0 + k) 0 (λ q. omega arith)
+            ∙ past (2 * m + p) (omega arith)
+
+        pub odd-more : Tallied w m n f (i + 1) c b
+            (set (set o (nameAt w f i) (getD o (nameAt w f i) 0 + 1)) (m + nameAt w f i)
+            (getD (set o (nameAt w f i) (getD o (nameAt w f i) 0 + 1)) (m + nameAt w f i) 0 + k))
+        unfolding weighed
+        odd-more =
+            record {
+              cells = λ r l. rw (add-one i) (omega (arith, borne r l, t .cells r l));
+              borders = λ r l. rw (add-one i, ← g) (omega (arith, kept r, t .borders r l));
+              lines = λ p l. ruled p ∙ t .lines p l;
+              long-cells = t .long-cells;
+              long-borders = t .long-borders;
+              long-odd = length-set once (m + x) (getD once (m + x) 0 + k) ∙ once-long;
+            }
+
+-- After all points no two entries of a name are too large to be added.
+pub tallied-small : (w m n : ℕ) (f c b o : List ℕ) → Tallied w m n f n c b o → 4 * n < mark → Small c b o
+tallied-small w m n f c b o t fits r l =
+    rw (t .long-cells) (
+      omega (
+        arith,
+        t .cells r (omega (arith, t .long-cells)),
+        weighed-most (nameAt w f) (λ _. 1) 1 (λ p. omega arith) r n,
+      ),
+      omega (
+        arith,
+        t .borders r (omega (arith, t .long-cells)),
+        weighed-most (nameAt w f) (linesAt w f) 4 (lines-most w f) r n,
+      ),
+    )
 
 -- The lines of a point more.
-module _ (w n : ℕ) (f b : List ℕ) where
-  pub ruled-more : (i k : ℕ) → i < n → k ≡ linesAt w f i → Ruled w n f i b → Ruled w n f (i + 1) (set b (2 * n + i) k)
-  ruled-more i k l e r =
+module _ (w m n : ℕ) (f o : List ℕ) where
+  pub ruled-more : (i k : ℕ) → i < n → m ≤ n → k ≡ linesAt w f i → Ruled w m n f i o
+      → Ruled w m n f (i + 1) (set o (2 * m + i) k)
+  ruled-more i k l b e r =
       record {
-        clear = λ v h.
-            rw (
-              getD-set-other b (2 * n + i) v k 0 (λ q. omega arith),
-              getD-set-other b (2 * n + i) (n + v) k 0 (λ q. omega arith),
-            )
-            (r .clear v h);
+        clear = λ v h. getD-set-other o (2 * m + i) v k 0 (λ q. omega arith) ∙ r .clear v h;
         lines = lines;
-        long = length-set b (2 * n + i) k ∙ r .long;
+        long = length-set o (2 * m + i) k ∙ r .long;
       }
     where
-      lines : (p : ℕ) → p < i + 1 → getD (set b (2 * n + i) k) (2 * n + p) 0 ≡ linesAt w f p
+      lines : (p : ℕ) → p < i + 1 → getD (set o (2 * m + i) k) (2 * m + p) 0 ≡ linesAt w f p
       lines p h = go (ℕ-discrete p i)
         where
-          go : Dec (p ≡ i) → getD (set b (2 * n + i) k) (2 * n + p) 0 ≡ linesAt w f p
-          go (yes q) = rw q (getD-set-same b (2 * n + i) k 0 (omega (arith, r .long)) ∙ e)
-          go (no q) = getD-set-other b (2 * n + i) (2 * n + p) k 0 (λ u. omega arith) ∙ r .lines p (omega arith)
+          go : Dec (p ≡ i) → getD (set o (2 * m + i) k) (2 * m + p) 0 ≡ linesAt w f p
+          go (yes q) = rw q (getD-set-same o (2 * m + i) k 0 (omega (arith, r .long)) ∙ e)
+          go (no q) = getD-set-other o (2 * m + i) (2 * m + p) k 0 (λ u. omega arith) ∙ r .lines p (omega arith)
 
--- Tables that are cleared at their front, where the two entries of each name are.
+-- Tables that are cleared, in whole or at their front.
 zeros-front : (k : ℕ) (u : List ℕ) (i : ℕ) → i < k → getD (replicate k 0 ++ u) i 0 ≡ 0
 zeros-front zero u i l = absurd (not-suc-le-zero l)
 zeros-front (suc k) u zero l = refl
 zeros-front (suc k) u (suc i) l = zeros-front k u i (omega arith)
 
-pub blank-both : (n : ℕ) (l e : List ℕ) → length (take (2 * n) l) ≡ 2 * n → e ≡ replicate (length (take (2 * n) l)) 0
-    → (r : ℕ) → r < n → both n (e ++ drop (2 * n) l) r ≡ 0
-blank-both n l e p q r b =
-    rw (q, p, zeros-front (2 * n) (drop (2 * n) l) r (omega arith), zeros-front (2 * n) (drop (2 * n) l) (n + r) (omega arith))
+pub ruled-none : (w m n : ℕ) (f l e : List ℕ) → length (e ++ drop (2 * m) l) ≡ 4 * n → length (take (2 * m) l) ≡ 2 * m
+    → e ≡ replicate (length (take (2 * m) l)) 0 → Ruled w m n f 0 (e ++ drop (2 * m) l)
+ruled-none w m n f l e k p q =
+    record {
+      clear = λ r b. rw (q, p) (zeros-front (2 * m) (drop (2 * m) l) r b);
+      lines = λ p b. absurd (not-suc-le-zero b);
+      long = k;
+    }
 
-pub ruled-none : (w n : ℕ) (f l e : List ℕ) → length (e ++ drop (2 * n) l) ≡ 4 * n → length (take (2 * n) l) ≡ 2 * n
-    → e ≡ replicate (length (take (2 * n) l)) 0 → Ruled w n f 0 (e ++ drop (2 * n) l)
-ruled-none w n f l e k p q = record { clear = blank-both n l e p q; lines = λ p b. absurd (not-suc-le-zero b); long = k }
+pub tallied-none : (w m n : ℕ) (f c b o : List ℕ) → Ruled w m n f n o → c ≡ replicate m 0 → b ≡ replicate m 0
+    → Tallied w m n f 0 c b o
+unfolding weighed
+tallied-none w m n f c b o r p q =
+    record {
+      cells = λ i l. rw (p, getD-replicate {A = ℕ} m i 0 0 l, r .clear i (omega arith));
+      borders = λ i l. rw (q, getD-replicate {A = ℕ} m i 0 0 l, r .clear (m + i) (omega arith));
+      lines = r .lines;
+      long-cells = rw p (length-replicate m 0);
+      long-borders = rw q (length-replicate m 0);
+      long-odd = r .long;
+    }
 
--- a table of four entries a point has room for two
-pub two-of-four : (w h n : ℕ) → n ≡ points w h → 2 * n ≤ slots w h
-unfolding slots
-two-of-four w h n e = omega arith
+-- A sheet has fewer cells than points, and its slots are below the mark.
+pub cells-points : (w h : ℕ) → w * h < points w h
+unfolding points
+cells-points w h = rw (add-one h, mul-suc (w + 1) h, add-mul w 1 h) (omega arith)
 
 pub four-fit : (w h n : ℕ) → within w h ≡ true → n ≡ points w h → 4 * n < mark
 unfolding slots mark
@@ -206,35 +205,3 @@ four-fit w h n z e = omega (arith, slots-most w h z)
 pub four-slots : (w h n k : ℕ) → n ≡ points w h → k ≡ slots w h → k ≡ 4 * n
 unfolding slots
 four-slots w h n k e p = omega arith
-
--- a sheet has fewer cells than points
-pub cells-points : (w h : ℕ) → w * h < points w h
-unfolding points
-cells-points w h = rw (add-one h, mul-suc (w + 1) h, add-mul w 1 h) (omega arith)
-
--- What the totals ask for, after a tally of all points, where they are as many as the names.
-module _ (w h n m : ℕ) (f c b : List ℕ) (z : within w h ≡ true) (e : n ≡ points w h)
-    (t : Tallied w (points w h) f (points w h) c b) (k : m ≡ w * h + 1) where
-  fits : 4 * points w h < mark
-  fits = four-fit w h (points w h) z refl
-
-  pub cells-ready : (0 < m) × (m ≤ n) × (n + n ≤ length c) × (n + n ≤ mark) × Small n c
-  cells-ready =
-      rw e (
-        omega arith,
-        omega (arith, cells-points w h),
-        omega (arith, t .long-cells),
-        omega (arith, fits),
-        small-cells w (points w h) f c b t fits,
-      )
-
-  pub borders-ready : (m ≤ n) × (n + n ≤ length c) × (n + n ≤ length b) × (n + n ≤ mark) × Small n c × Small n b
-  borders-ready =
-      rw e (
-        omega (arith, cells-points w h),
-        omega (arith, t .long-cells),
-        omega (arith, t .long-borders),
-        omega (arith, fits),
-        small-cells w (points w h) f c b t fits,
-        small-borders w (points w h) f c b t fits,
-      )

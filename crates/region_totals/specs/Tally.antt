@@ -1,17 +1,18 @@
--- The tally of cells and border lines, from the names f with the outside round them, in rows of w + 1. A sheet of n points.
+-- The tally of cells and border lines, from the names f with the outside round them, in rows of w + 1. A sheet of m names and n points.
 --   nameAt w f p    == the name of the cell south-east of point p
 --   linesAt w f p   == twice how many of that cell's left line and top line are border lines
 --   weighed v k r i == k p added up over the numbers p below i that have v p = r
---   both n t r      == the two entries of the name r in the table t, added up
---   Named n f       == every name is below n
---   Place n m       == m places on from a name below n is one of its two entries
---   Small n t       == no two entries of a name are too large to be added
---   Ruled w n f i b == after the two entries of each name, all 0, the table b has the lines of the cells of the points below i
---   Tallied w n f i c b == the tables c and b have the cells and the lines of the points below i, by name; b has also those of all points
+--   borneIn c o r   == the cells of the name r, in the tables c and o
+--   linedIn m b o r == the lines of the name r, in the tables b and o
+--   Named m f       == every name is below m
+--   Small c b o     == no two entries of a name are too large to be added
+--   Ruled w m n f i o == after two entries for each name, all 0, the table o has the lines of the cells of the points below i
+--   Tallied w m n f i c b o == the tables c, b and o have the cells and the lines of the points below i, by name; o has also the lines of
+--                      the cells of all points
+--   Odd w m n f i o == the table o is of such a tally
 use mathlib.Core.Path.{_≡_}
 use mathlib.Core.Bool.{not, cond}
 use mathlib.Core.List.{List}
-use mathlib.Core.Logic.{_⊎_}
 use Prim.Native.Nat.{ℕ, zero, suc, _+_, _*_, _≤_, _<_}
 use lib.Dec.{eqb}
 use lib.ListN.{length, getD}
@@ -29,26 +30,32 @@ unfoldable pub weighed : (ℕ → ℕ) → (ℕ → ℕ) → ℕ → ℕ → ℕ
 weighed v k r zero = 0
 weighed v k r (suc i) = cond (eqb (v i) r) (k i) 0 + weighed v k r i
 
-abbrev pub both : ℕ → List ℕ → ℕ → ℕ
-both n t r = getD t r 0 + getD t (n + r) 0
+abbrev pub borneIn : List ℕ → List ℕ → ℕ → ℕ
+borneIn c o r = getD c r 0 + getD o r 0
+
+abbrev pub linedIn : ℕ → List ℕ → List ℕ → ℕ → ℕ
+linedIn m b o r = getD b r 0 + getD o (m + r) 0
 
 abbrev pub Named : ℕ → List ℕ → Type 0
-Named n f = (k : ℕ) → getD f k 0 < n
+Named m f = (k : ℕ) → getD f k 0 < m
 
-abbrev pub Place : ℕ → ℕ → Type 0
-Place n m = (m ≡ 0) ⊎ (m ≡ n)
+abbrev pub Small : List ℕ → List ℕ → List ℕ → Type 0
+Small c b o = (r : ℕ) → r < length c → (borneIn c o r ≤ mark) × (linedIn (length c) b o r ≤ mark)
 
-abbrev pub Small : ℕ → List ℕ → Type 0
-Small n t = (r : ℕ) → r < n → both n t r ≤ mark
+pub record Ruled (w m n : ℕ) (f : List ℕ) (i : ℕ) (o : List ℕ) : Type 0 where
+  pub clear : (r : ℕ) → r < 2 * m → getD o r 0 ≡ 0
+  pub lines : (p : ℕ) → p < i → getD o (2 * m + p) 0 ≡ linesAt w f p
+  pub long : length o ≡ 4 * n
 
-pub record Ruled (w n : ℕ) (f : List ℕ) (i : ℕ) (b : List ℕ) : Type 0 where
-  pub clear : (r : ℕ) → r < n → both n b r ≡ 0
-  pub lines : (p : ℕ) → p < i → getD b (2 * n + p) 0 ≡ linesAt w f p
-  pub long : length b ≡ 4 * n
+pub record Tallied (w m n : ℕ) (f : List ℕ) (i : ℕ) (c b o : List ℕ) : Type 0 where
+  pub cells : (r : ℕ) → r < m → borneIn c o r ≡ weighed (nameAt w f) (λ _. 1) r i
+  pub borders : (r : ℕ) → r < m → linedIn m b o r ≡ weighed (nameAt w f) (linesAt w f) r i
+  pub lines : (p : ℕ) → p < n → getD o (2 * m + p) 0 ≡ linesAt w f p
+  pub long-cells : length c ≡ m
+  pub long-borders : length b ≡ m
+  pub long-odd : length o ≡ 4 * n
 
-pub record Tallied (w n : ℕ) (f : List ℕ) (i : ℕ) (c b : List ℕ) : Type 0 where
-  pub cells : (r : ℕ) → r < n → both n c r ≡ weighed (nameAt w f) (λ _. 1) r i
-  pub borders : (r : ℕ) → r < n → both n b r ≡ weighed (nameAt w f) (linesAt w f) r i
-  pub lines : (p : ℕ) → p < n → getD b (2 * n + p) 0 ≡ linesAt w f p
-  pub long-cells : length c ≡ 4 * n
-  pub long-borders : length b ≡ 4 * n
+pub record Odd (w m n : ℕ) (f : List ℕ) (i : ℕ) (o : List ℕ) : Type 0 where
+  pub cells : List ℕ
+  pub borders : List ℕ
+  pub tallied : Tallied w m n f i cells borders o

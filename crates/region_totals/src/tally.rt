@@ -2,20 +2,18 @@
 // lines at the left of its cells as at their right, and as many at their top as at their bottom, so that those at the left and at
 // the top are counted twice.
 //
-// Two entries of a table are a name's own, the second as many places on as there are points: even points are tallied in the one
-// and odd points in the other, since adding to one entry again and again is slow.
-use point_darts::dart;
+// Even points are tallied in two tables, odd points in a third, which has two entries for each name, the second as many places on as
+// there are names: adding to one entry again and again is slow.
 use table_entries::entry;
 ghost use mathlib.Core.Path.{_≡_};
-ghost use mathlib.Core.Bool.{true, not};
-ghost use Prim.Native.Nat.{_+_, _*_, _≤_, _<_};
+ghost use mathlib.Core.Bool.{not};
+ghost use mathlib.Core.List.{List};
+ghost use Prim.Native.Nat.{ℕ, _+_, _*_, _≤_, _<_};
 ghost use lib.Dec.{eqb};
 ghost use lib.ListN.{length, getD, set};
 ghost use Rattle.laws.specs.Table.{number};
-ghost use Rattle.sheet_size.specs.Size.{within};
-ghost use Rattle.point_darts.specs.Dart.{mark, points, slots};
-ghost use Rattle.region_names.specs.Frame.{surround};
-ghost use Rattle.region_totals.specs.Tally.{Named, Place, Ruled, Tallied};
+ghost use Rattle.point_darts.specs.Dart.{mark};
+ghost use Rattle.region_totals.specs.Tally.{Named, Ruled, Tallied, Odd};
 
 // Two where two names differ, else 0.
 fn where_differ(a: u16, b: u16) -> u16
@@ -33,18 +31,18 @@ fn lines_of(name: u16, west: u16, north: u16) -> u16
 }
 
 // The lines of the cell of each point, after the two entries of each name.
-fn rule(width: u16, points: usize, round: &[u16], borders: &mut [u16])
+fn rule(width: u16, points: usize, names: usize, round: &[u16], odd: &mut [u16])
     requires { ⌜
-        (length (now round) ≡ points + width + 2) × (4 * points < mark) ×
-        Ruled width points (now round) 0 (now borders)
+        (length (now round) ≡ points + width + 2) × (4 * points < mark) × (names ≤ points) ×
+        Ruled width names points (now round) 0 (now odd)
         ⌝ }
-    ensures { λ _. ⌜ Ruled width points (now (round .entry)) points (now (borders .exit)) ⌝ }
+    ensures { λ _. ⌜ Ruled width names points (now (round .entry)) points (now (odd .exit)) ⌝ }
 {
     let wide = width as usize;
-    let lines = 2 * points;
+    let lines = 2 * names;
     let mut p: usize = 0;
     while p < points {
-        borders[lines + p] = lines_of(round[p + (wide + 2)], round[p + (wide + 1)], round[p + 1]);
+        odd[lines + p] = lines_of(round[p + (wide + 2)], round[p + (wide + 1)], round[p + 1]);
         p += 1;
     }
 }
@@ -59,62 +57,98 @@ fn add(table: &mut [u16], place: usize, amount: u16)
     table[place] += amount;
 }
 
-// A point more is tallied: its cell, in one of the two entries of the cell's name, and the cell's lines.
-fn tally_point(
+// A point more is tallied, an even one: its cell and the cell's lines, which the third table has.
+fn tally_even(
     width: u16,
     points: usize,
+    names: usize,
     round: &[u16],
     cells: &mut [u16],
     borders: &mut [u16],
-    from: usize,
+    odd: &[u16],
     p: usize,
 )
     requires { ⌜
-        Named points (now round) × (length (now round) ≡ points + width + 2) × (4 * points < mark) × (p < points) ×
-        Place points from × Tallied width points (now round) p (now cells) (now borders)
+        Named names (now round) × (length (now round) ≡ points + width + 2) × (4 * points < mark) × (names ≤ points) ×
+        (p < points) × Tallied width names points (now round) p (now cells) (now borders) (now odd)
         ⌝ }
-    ensures { λ _. ⌜ Tallied width points (now (round .entry)) (p + 1) (now (cells .exit)) (now (borders .exit)) ⌝ }
+    ensures { λ _. ⌜
+        Tallied width names points (now (round .entry)) (p + 1) (now (cells .exit)) (now (borders .exit)) (now (odd .entry))
+        ⌝ }
 {
-    let place = from + round[p + (width as usize + 2)] as usize;
-    let lines = borders[2 * points + p];
-    add(cells, place, 1);
-    add(borders, place, lines);
+    let name = round[p + (width as usize + 2)] as usize;
+    let lines = odd[2 * names + p];
+    add(cells, name, 1);
+    add(borders, name, lines);
+}
+
+// A point more is tallied, an odd one: its cell and the cell's lines.
+fn tally_odd(width: u16, points: usize, names: usize, round: &[u16], odd: &mut [u16], p: usize)
+    requires { ⌜
+        Named names (now round) × (length (now round) ≡ points + width + 2) × (4 * points < mark) × (names ≤ points) ×
+        (p < points) × Odd width names points (now round) p (now odd)
+        ⌝ }
+    ensures { λ _. ⌜
+        ((c b : List ℕ) → Tallied width names points (now (round .entry)) p c b (now (odd .entry)) →
+        Tallied width names points (now (round .entry)) (p + 1) c b (now (odd .exit)))
+        ⌝ }
+{
+    let name = round[p + (width as usize + 2)] as usize;
+    let lines = odd[2 * names + p];
+    add(odd, name, 1);
+    add(odd, names + name, lines);
 }
 
 // All points are tallied, two at a time.
-fn tally_points(width: u16, points: usize, round: &[u16], cells: &mut [u16], borders: &mut [u16])
+fn tally_points(
+    width: u16,
+    points: usize,
+    names: usize,
+    round: &[u16],
+    cells: &mut [u16],
+    borders: &mut [u16],
+    odd: &mut [u16],
+)
     requires { ⌜
-        Named points (now round) × (length (now round) ≡ points + width + 2) × (4 * points < mark) ×
-        Tallied width points (now round) 0 (now cells) (now borders)
+        Named names (now round) × (length (now round) ≡ points + width + 2) × (4 * points < mark) × (names ≤ points) ×
+        Tallied width names points (now round) 0 (now cells) (now borders) (now odd)
         ⌝ }
-    ensures { λ _. ⌜ Tallied width points (now (round .entry)) points (now (cells .exit)) (now (borders .exit)) ⌝ }
+    ensures { λ _. ⌜
+        Tallied width names points (now (round .entry)) points (now (cells .exit)) (now (borders .exit)) (now (odd .exit))
+        ⌝ }
 {
     let mut p: usize = 0;
     while p + 1 < points {
-        tally_point(width, points, round, cells, borders, 0, p);
-        tally_point(width, points, round, cells, borders, points, p + 1);
+        tally_even(width, points, names, round, cells, borders, odd, p);
+        tally_odd(width, points, names, round, odd, p + 1);
         p += 2;
     }
     if p < points {
-        tally_point(width, points, round, cells, borders, 0, p);
+        tally_even(width, points, names, round, cells, borders, odd, p);
     }
 }
 
 // The tally of a sheet, from the names with the outside round them.
-pub fn tally(width: u16, height: u16, round: &[u16], cells: &mut [u16], borders: &mut [u16])
+pub fn tally(
+    width: u16,
+    points: usize,
+    names: usize,
+    round: &[u16],
+    cells: &mut [u16],
+    borders: &mut [u16],
+    odd: &mut [u16],
+)
     requires { ⌜
-        (within width height ≡ true) × (length (now round) ≡ surround width height) ×
-        Named (points width height) (now round) × (length (now cells) ≡ slots width height) ×
-        (length (now borders) ≡ slots width height)
+        Named names (now round) × (length (now round) ≡ points + width + 2) × (4 * points < mark) × (names ≤ points) ×
+        (length (now cells) ≡ names) × (length (now borders) ≡ names) × (length (now odd) ≡ 4 * points)
         ⌝ }
     ensures { λ _. ⌜
-        Tallied width (points width height) (now (round .entry)) (points width height) (now (cells .exit))
-        (now (borders .exit))
+        Tallied width names points (now (round .entry)) points (now (cells .exit)) (now (borders .exit)) (now (odd .exit))
         ⌝ }
 {
-    let points = dart::points(width, height) as usize;
-    entry::clear(&mut cells[..2 * points]);
-    entry::clear(&mut borders[..2 * points]);
-    rule(width, points, round, borders);
-    tally_points(width, points, round, cells, borders);
+    entry::clear(cells);
+    entry::clear(borders);
+    entry::clear(&mut odd[..2 * names]);
+    rule(width, points, names, round, odd);
+    tally_points(width, points, names, round, cells, borders, odd);
 }

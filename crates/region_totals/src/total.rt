@@ -1,13 +1,17 @@
-// The totals from a tally of all points.
+// The totals of each name.
+use crate::tally;
 use point_darts::dart;
 ghost use mathlib.Core.Path.{_≡_};
-ghost use mathlib.Core.Bool.{cond};
-ghost use Prim.Native.Nat.{_+_, _≤_, _<_};
+ghost use mathlib.Core.Bool.{true, cond};
+ghost use Prim.Native.Nat.{_+_, _*_, _≤_, _<_};
 ghost use lib.Dec.{eqb};
-ghost use lib.ListN.{length, set};
+ghost use lib.ListN.{length};
 ghost use Rattle.laws.specs.Table.{table};
-ghost use Rattle.point_darts.specs.Dart.{mark};
-ghost use Rattle.region_totals.specs.Tally.{both, Small};
+ghost use Rattle.sheet_size.specs.Size.{within};
+ghost use Rattle.point_darts.specs.Dart.{mark, points, slots};
+ghost use Rattle.region_names.specs.Frame.{surround};
+ghost use Rattle.region_totals.specs.Tally.{Named, Small, borneIn, linedIn};
+ghost use Rattle.region_totals.specs.Total.{Totalled};
 
 // A value, the mark where there is no cell.
 fn where_some(cells: u16, value: u16) -> u16
@@ -16,44 +20,55 @@ fn where_some(cells: u16, value: u16) -> u16
     if cells == 0 { dart::MARK } else { value }
 }
 
-// The totals of border lines: what two tables have tallied, by name. The mark where the first has no cell, else what the second has.
-pub fn border_totals(points: usize, cells: &[u16], borders: &[u16], totals: &mut [u16])
+// What three tables have tallied is added up, in the first two: the cells and the border lines of each name, the mark in both for a
+// name without cells.
+fn add_up(cells: &mut [u16], borders: &mut [u16], odd: &[u16])
     requires { ⌜
-        (length (now totals) ≤ points) × (points + points ≤ length (now cells)) × (points + points ≤ length (now borders)) ×
-        (points + points ≤ mark) × Small points (now cells) × Small points (now borders)
+        (length (now borders) ≡ length (now cells)) × (2 * length (now cells) ≤ length (now odd)) ×
+        (length (now odd) < mark) × Small (now cells) (now borders) (now odd)
         ⌝ }
     ensures { λ _. ⌜
-        now (totals .exit) ≡
-        table (length (now (totals .entry)))
-        (λ r. cond (eqb (both points (now (cells .entry)) r) 0) mark (both points (now (borders .entry)) r))
+        (now (cells .exit) ≡
+        table (length (now (cells .entry)))
+        (λ r. cond (eqb (borneIn (now (cells .entry)) (now (odd .entry)) r) 0) mark
+        (borneIn (now (cells .entry)) (now (odd .entry)) r))) ×
+        (now (borders .exit) ≡
+        table (length (now (cells .entry)))
+        (λ r. cond (eqb (borneIn (now (cells .entry)) (now (odd .entry)) r) 0) mark
+        (linedIn (length (now (cells .entry))) (now (borders .entry)) (now (odd .entry)) r)))
         ⌝ }
 {
-    let n = totals.len();
+    let n = cells.len();
     let mut r: usize = 0;
     while r < n {
-        totals[r] = where_some(
-            cells[r] + cells[points + r],
-            borders[r] + borders[points + r],
-        );
+        let sum = cells[r] + odd[r];
+        let lines = borders[r] + odd[n + r];
+        cells[r] = where_some(sum, sum);
+        borders[r] = where_some(sum, lines);
         r += 1;
     }
 }
 
-// The totals of cells: the outside has none.
-pub fn cell_totals(points: usize, cells: &[u16], totals: &mut [u16])
+// The totals of a sheet, from the names with the outside round them: how many cells and how many border lines each name has. The
+// outside has no cell. Odd is work.
+pub fn totals(
+    width: u16,
+    height: u16,
+    round: &[u16],
+    cells: &mut [u16],
+    borders: &mut [u16],
+    odd: &mut [u16],
+)
     requires { ⌜
-        (0 < length (now totals)) × (length (now totals) ≤ points) × (points + points ≤ length (now cells)) ×
-        (points + points ≤ mark) × Small points (now cells)
+        (within width height ≡ true) × (length (now round) ≡ surround width height) ×
+        Named (width * height + 1) (now round) × (length (now cells) ≡ width * height + 1) ×
+        (length (now borders) ≡ width * height + 1) × (length (now odd) ≡ slots width height)
         ⌝ }
-    ensures { λ _. ⌜
-        now (totals .exit) ≡
-        set
-        (table (length (now (totals .entry)))
-        (λ r. cond (eqb (both points (now (cells .entry)) r) 0) mark (both points (now (cells .entry)) r)))
-        0
-        0
-        ⌝ }
+    ensures { λ _. ⌜ Totalled width height (now (round .entry)) (now (cells .exit)) (now (borders .exit)) ⌝ }
 {
-    border_totals(points, cells, cells, totals);
-    totals[0] = 0;
+    let points = dart::points(width, height) as usize;
+    let names = cells.len();
+    tally::tally(width, points, names, round, cells, borders, odd);
+    add_up(cells, borders, odd);
+    cells[0] = 0;
 }

@@ -1,4 +1,4 @@
-use mathlib.Core.Path.{sym, _∙_}
+use mathlib.Core.Path.{refl, sym, _∙_}
 use borrow.Author.Needs.{needs}
 use Rattle.table_entries.proofs.Cleared.{cleared-same}
 use Rattle.region_totals.proofs.Paper.{framed-below}
@@ -15,10 +15,10 @@ abbrev named : tie.After-draw-lines → tie.After-name-cells
 named c = c .before .before .before .before .before .before .before .before .before
 
 abbrev lined : tie.After-draw-totals → tie.After-draw-lines
-lined c = c .before .before .before .before .before .before .before .before .before .before .before .before
+lined c = c .before .before .before .before .before .before .before .before .before .before .before
 
 abbrev totalled : tie.After-keep-points → tie.After-draw-totals
-totalled c = c .before .before .before .before .before .before .before .before .before .before .before .before .before
+totalled c = c .before .before .before .before .before .before .before .before .before .before .before
 
 abbrev kept : tie.After-draw-curves → tie.After-keep-points
 kept c = c .before .before .before .before .before .before .before .before .before
@@ -29,7 +29,7 @@ curved c = c .before .before .before .before .before .before .before .before
 abbrev settled : tie.After-clear-four → tie.After-draw-parents
 settled c = c .before .before .before .before .before .before .before
 
-abbrev cleared : tie.After-slice-known29 → tie.After-clear-four
+abbrev cleared : tie.After-slice-known28 → tie.After-clear-four
 cleared c = c .before .before .before .before .before .before .before .before
 
 slice-aggregate-refusal : tie.Need-slice-aggregate-refusal
@@ -71,22 +71,21 @@ draw-lines-requires c κs =
 
 draw-totals-requires : tie.Need-draw-totals-requires
 draw-totals-requires c κs =
-    let n = named (c .before .before .before .before .before .before .before .before .before .before .before) in
+    let n = named (c .before .before .before .before .before .before .before .before .before .before) in
     let k = answered n in
     let f = all-fit _ _ _ _ _ _ (k .before .refusal .ensures) (sym (k .number .ensures) ∙ n .before .before .before .if1 .left) in
     let d = f .darts .1 .1 .1 .1 in (
       f .size,
       n .name-cells .kept .1 .1 .1 .1 .0 ∙ d .1 .0,
       rw (n .name-cells .ensures) (framed-below _ _ _),
-      d .1 .1 .0,
-      d .1 .1 .1 .0,
       f .names .1 .0,
       f .names .1 .1 .0,
+      d .1 .1 .0,
     )
 
 keep-points-requires : tie.Need-keep-points-requires
 keep-points-requires c κs =
-    let t = c .before .before .before .before .before .before .before .before .before .before .before .before in
+    let t = c .before .before .before .before .before .before .before .before .before .before in
     let l = lined t in
     let n = named l in
     let k = answered n in
@@ -96,7 +95,7 @@ keep-points-requires c κs =
       l .draw-lines .kept .1 .1 .1 .1 .1 .0 ∙ f .darts .1 .0,
       l .draw-lines .kept .1 .1 .1 .0 ∙ n .name-cells .kept .1 .1 .1 .0 ∙ d .0,
       n .name-cells .kept .1 .1 .1 .1 .0 ∙ d .1 .0,
-      t .draw-totals .kept .1 .1 .1 .0 ∙ d .1 .1 .0,
+      t .draw-totals .kept .1 .1 .1 .1 .1 .0 ∙ d .1 .1 .0,
     )
 
 draw-curves-requires : tie.Need-draw-curves-requires
@@ -108,7 +107,7 @@ draw-curves-requires c κs =
     let f = all-fit _ _ _ _ _ _ (k .before .refusal .ensures) (sym (k .number .ensures) ∙ n .before .before .before .if1 .left) in
     let d = f .darts .1 .1 in (
       f .size,
-      p .keep-points .kept .1 .1 .1 .1 .1 .0 ∙ totalled p .draw-totals .kept .1 .1 .1 .0 ∙ d .1 .1 .1 .1 .0,
+      p .keep-points .kept .1 .1 .1 .1 .1 .0 ∙ totalled p .draw-totals .kept .1 .1 .1 .1 .1 .0 ∙ d .1 .1 .1 .1 .0,
       d .0,
       d .1 .0,
       l .draw-lines .kept .1 .1 .1 .1 .0 ∙ f .darts .0,
@@ -148,10 +147,10 @@ same-length-5 : tie.Need-same-length-5
 same-length-5 c = settled (cleared c) .draw-parents .kept .1 .1 .1 .1 .0
 
 same-length-6 : tie.Need-same-length-6
-same-length-6 c = totalled (kept (curved (settled (cleared c)))) .draw-totals .kept .1 .1 .1 .1 .1 .0
+same-length-6 c = totalled (kept (curved (settled (cleared c)))) .draw-totals .kept .1 .1 .1 .0
 
 same-length-7 : tie.Need-same-length-7
-same-length-7 c = totalled (kept (curved (settled (cleared c)))) .draw-totals .kept .1 .1 .1 .1 .1 .1 .0
+same-length-7 c = totalled (kept (curved (settled (cleared c)))) .draw-totals .kept .1 .1 .1 .1 .0
 
 same-length-8 : tie.Need-same-length-8
 same-length-8 c =
@@ -169,12 +168,10 @@ same-length-10 : tie.Need-same-length-10
 same-length-10 c =
     let e = cleared c in
     let p = kept (curved (settled e)) in
-    e .clear-four .kept .1 .1 .0 ∙ p .keep-points .kept .1 .1 .1 .1 .1 .0 ∙ totalled p .draw-totals .kept .1 .1 .1 .0
+    e .clear-four .kept .1 .1 .0 ∙ p .keep-points .kept .1 .1 .1 .1 .1 .0 ∙ totalled p .draw-totals .kept .1 .1 .1 .1 .1 .0
 
 same-length-11 : tie.Need-same-length-11
-same-length-11 c =
-    let e = cleared c in
-    e .clear-four .kept .1 .1 .1 .0 ∙ totalled (kept (curved (settled e))) .draw-totals .kept .1 .1 .1 .1 .0
+same-length-11 c = cleared c .clear-four .kept .1 .1 .1 .0
 
 returns-2 : tie.Need-returns-2
 returns-2 c =
@@ -194,7 +191,7 @@ returns-2 c =
     (e .clear-four .ensures
     ∙ cleared-same _ _ _ _ _ _ _ _ (l .draw-lines .kept .1 .1 .1 .0 ∙ n .name-cells .kept .1 .1 .1 .0)
     (p .keep-points .kept .1 .1 .1 .1 .0 ∙ n .name-cells .kept .1 .1 .1 .1 .0)
-    (p .keep-points .kept .1 .1 .1 .1 .1 .0 ∙ t .draw-totals .kept .1 .1 .1 .0) (t .draw-totals .kept .1 .1 .1 .1 .0))
+    (p .keep-points .kept .1 .1 .1 .1 .1 .0 ∙ t .draw-totals .kept .1 .1 .1 .1 .1 .0) refl)
 
 pub draw-spec : {M : Type 1} → statement M
 draw-spec =

@@ -9,17 +9,17 @@ use Rattle.region_totals.proofs.tally.rule.Statement.{statement}
 use Rattle.region_totals.proofs.tally.rule.Tie as tie
 
 abbrev Inv-loop : tie.InvT-loop
-Inv-loop width points round borders₀ wide lines p₀ borders p = Ruled width points round p borders × (p ≤ points)
+Inv-loop width points names round odd₀ wide lines p₀ odd p = Ruled width names points round p odd × (p ≤ points)
 
 abbrev μ-loop : tie.MeasureT-loop
-μ-loop width points round borders₀ wide lines p₀ borders p = points - p
+μ-loop width points names round odd₀ wide lines p₀ odd p = points - p
 
 mul-lines : tie.Need-mul-lines Inv-loop μ-loop
 unfolding mark
-mul-lines c = omega (arith, c .before .before .pre .1)
+mul-lines c = omega (arith, c .before .before .pre .1, c .before .before .pre .2)
 
 loop-holds : tie.Need-loop-holds Inv-loop μ-loop
-loop-holds c = (c .before .before .pre .2, omega arith)
+loop-holds c = (c .before .before .pre .3, omega arith)
 
 add-lines-of : tie.Need-add-lines-of Inv-loop μ-loop
 add-lines-of c = search needs
@@ -57,14 +57,14 @@ shared-slice-read-lines-of-3 c = search needs
 lines-of-requires : tie.Need-lines-of-requires Inv-loop μ-loop
 lines-of-requires c κs = search needs
 
-add-borders : tie.Need-add-borders Inv-loop μ-loop
-add-borders c = search needs
+add-odd : tie.Need-add-odd Inv-loop μ-loop
+add-odd c = search needs
 
-mul-borders : tie.Need-mul-borders Inv-loop μ-loop
-mul-borders c = search needs
+mul-odd : tie.Need-mul-odd Inv-loop μ-loop
+mul-odd c = search needs
 
-slice-write-borders : tie.Need-slice-write-borders Inv-loop μ-loop
-slice-write-borders c = search needs
+slice-write-odd : tie.Need-slice-write-odd Inv-loop μ-loop
+slice-write-odd c = search needs
 
 add-p : tie.Need-add-p Inv-loop μ-loop
 add-p c = search needs
@@ -77,10 +77,10 @@ unfolding linesAt nameAt
 loop-again c =
     let l = c .before .before .before .before .before in
     let i = l .loop .inv in
-    (ruled-more _ _ _ _ _ _ (c .before .before .before .before .loop-test .taken) (c .lines-of .ensures .0) (i .0), omega arith)
+    (ruled-more _ _ _ _ _ _ _ (c .before .before .before .before .loop-test .taken) (l .before .before .before .pre .2) (c .lines-of .ensures .0) (i .0), omega arith)
 
 same-length : tie.Need-same-length Inv-loop μ-loop
-same-length c = c .before .loop .inv .0 .long ∙ sym (c .before .before .before .before .pre .2 .long)
+same-length c = c .before .loop .inv .0 .long ∙ sym (c .before .before .before .before .pre .3 .long)
 
 returns : tie.Need-returns Inv-loop μ-loop
 returns c =
@@ -108,9 +108,9 @@ rule-spec =
     mul-lines-of-3
     shared-slice-read-lines-of-3
     lines-of-requires
-    add-borders
-    mul-borders
-    slice-write-borders
+    add-odd
+    mul-odd
+    slice-write-odd
     add-p
     loop-less
     loop-again
