@@ -1,7 +1,7 @@
 -- The points that are kept.
 --   kinding         == what the point table says of each mask where no line is taken
---   stands i m t p  == the table t names point p at a large point berise .up i
---   Flagged n m t i k == k has a flag, 1, at the points below n that t names at large points berise .up i, and 0 at the others
+--   stands i m t p  == the table t names point p at a large point below i
+--   flags n m t i   == 1 at the points below n that are large or that t names at large points below i, and 0 at the others
 use mathlib.Core.Path.{_≡_, refl, sym, ap, _∙_}
 use mathlib.Core.Bool.{Bool, true, false, not, _&&_, _||_, and-true, and-false}
 use mathlib.Core.List.{List}
@@ -9,6 +9,7 @@ use mathlib.Core.Logic.{_≢_}
 use Prim.Native.Nat.{ℕ, _+_, _*_, _-_, _≤_, _<_}
 use native.Mathlib.Numerals.{add-one}
 use native.Mathlib.Decide.{ℕ-discrete, decLt}
+use native.Mathlib.Nat.{le-refl, mul-le-mul-left}
 use native.Mathlib.Omega.{arith}
 use lib.Dec.{eqb, ltb, lit<}
 use lib.ListN.{length, getD, set, length-set}
@@ -114,9 +115,8 @@ or-true true = refl
 or-true false = refl
 
 -- Flags. The way back from place i to t, where v is 1, and none where it is 0.
-pub back-le : (i t v : ℕ) (r : Bool) → v ≡ number r → (i - t) * v ≤ i
-back-le i t v true e = rw e (omega arith)
-back-le i t v false e = rw e (omega arith)
+pub back-le : (i t v : ℕ) → v ≤ 1 → (i - t) * v ≤ i
+back-le i t v e = omega (arith, mul-le-mul-left (i - t) e)
 
 abbrev pub flags : ℕ → List ℕ → List ℕ → ℕ → List ℕ
 flags n m t i = table n (λ p. number (large m p || stands i m t p))
@@ -168,49 +168,55 @@ module _ (n : ℕ) (m t : List ℕ) where
       let d : p < n = rw (length-set (flags n m t i) (at t i) 1, flags-long i) at b in
       flag-at i p d f (ℕ-discrete p (at t i)) ∙ sym (flag-read (i + 1) p 0 d)))
 
-  -- a point more, where no top is after its point
-  module _ (rise : Rising t) (long : length t ≡ n) (i : ℕ) (b : i < n) where
+  -- where no top is after its point
+  module _ (rise : Rising t) (long : length t ≡ n) where
     -- no other point's flag stands at a place that comes later
-    none-yet : stands i m t i ≡ false
+    none-yet : (i p : ℕ) → i ≤ p → p < n → stands i m t p ≡ false
     unfolding stands
-    none-yet =
-        none-some (λ q. eqb (at t q) i && large m q) i
+    none-yet i p a b =
+        none-some (λ q. eqb (at t q) p && large m q) i
         (λ q l.
         ap (λ e. e && large m q)
-        (ne-eqb (at t q) i (λ e. omega (arith, rise .up q, at-entry t q (omega (arith, long))))))
+        (ne-eqb (at t q) p (λ e. omega (arith, rise .up q, at-entry t q (omega (arith, long))))))
 
-    own-flag : getD (flags n m t i) i 0 ≡ number (large m i)
-    own-flag = flag-read i i 0 b ∙ ap (λ s. number (large m i || s)) none-yet ∙ ap number (or-false (large m i))
+    -- so a point at hand, or after it, has its own flag: 1 where it is large, else 0
+    pub flag-own : (k : List ℕ) (i p : ℕ) → k ≡ flags n m t i → i ≤ p → p < n → getD k p 0 ≡ number (large m p)
+    flag-own k i p f a b =
+        ap (λ l. getD l p 0) f
+        ∙ flag-read i p 0 b
+        ∙ ap (λ s. number (large m p || s)) (none-yet i p a b)
+        ∙ ap number (or-false (large m p))
 
-    set-own : (v : ℕ) → v ≡ getD (flags n m t i) i 0 → set (flags n m t i) i v ≡ flags n m t i
-    set-own v e =
-        ext-getD 0 (set (flags n m t i) i v) (flags n m t i) (length-set (flags n m t i) i v) (λ p _. go p (ℕ-discrete p i))
-      where
-        go : (p : ℕ) → Dec (p ≡ i) → getD (set (flags n m t i) i v) p 0 ≡ getD (flags n m t i) p 0
-        go p (yes q) = rw q (getD-set-same (flags n m t i) i v 0 (rw (flags-long i) b) ∙ e)
-        go p (no q) = getD-set-other (flags n m t i) i p v 0 q
+    -- a point more
+    module _ (i : ℕ) (b : i < n) where
+      set-own : (v : ℕ) → v ≡ number (large m i) → set (flags n m t i) i v ≡ flags n m t i
+      set-own v e =
+          ext-getD 0 (set (flags n m t i) i v) (flags n m t i) (length-set (flags n m t i) i v) (λ p _. go p (ℕ-discrete p i))
+        where
+          go : (p : ℕ) → Dec (p ≡ i) → getD (set (flags n m t i) i v) p 0 ≡ getD (flags n m t i) p 0
+          go p (yes q) =
+              rw q
+              (getD-set-same (flags n m t i) i v 0 (rw (flags-long i) b)
+              ∙ e
+              ∙ sym (flag-own (flags n m t i) i i refl (le-refl i) b))
+          go p (no q) = getD-set-other (flags n m t i) i p v 0 q
 
-    -- the point's own flag is 1 where it is large, else 0
-    pub flag-own : (k : List ℕ) → k ≡ flags n m t i → getD k i 0 ≡ number (large m i)
-    flag-own k f = ap (λ l. getD l i 0) f ∙ own-flag
-
-    -- it goes to the point's top where it is 1, and stays where it is 0
-    pub flags-next : (k : List ℕ) (u v : ℕ) → k ≡ flags n m t i → v ≡ getD k i 0 → u ≡ i - (i - getD t i 0) * v
-        → set k u v ≡ flags n m t (i + 1)
-    flags-next k u v f p q = go (large m i) refl
-      where
-        go : (r : Bool) → large m i ≡ r → set k u v ≡ flags n m t (i + 1)
-        go true r =
-            let one : v ≡ 1 = p ∙ flag-own k f ∙ ap number r in
-            let back : u ≡ i - (i - getD t i 0) * 1 = rw one at q in
-            let top : u ≡ at t i = omega (arith, back, rise .up i, at-entry t i (omega (arith, long))) in
-            rw (f, one) (flags-more i u top r)
-        go false r =
-            let none : v ≡ 0 = p ∙ flag-own k f ∙ ap number r in
-            let back : u ≡ i - (i - getD t i 0) * 0 = rw none at q in
-            let own : u ≡ i = omega (arith, back) in
-            let read : v ≡ getD (flags n m t i) i 0 = p ∙ ap (λ l. getD l i 0) f in
-            rw (f, own) (set-own v read ∙ flags-same i r)
+      -- its flag goes to its top where it is 1, and stays where it is 0
+      pub flags-next : (k : List ℕ) (u v : ℕ) → k ≡ flags n m t i → v ≡ number (large m i) → u ≡ i - (i - getD t i 0) * v
+          → set k u v ≡ flags n m t (i + 1)
+      flags-next k u v f p q = go (large m i) refl
+        where
+          go : (r : Bool) → large m i ≡ r → set k u v ≡ flags n m t (i + 1)
+          go true r =
+              let one : v ≡ 1 = p ∙ ap number r in
+              let back : u ≡ i - (i - getD t i 0) * 1 = rw one at q in
+              let top : u ≡ at t i = omega (arith, back, rise .up i, at-entry t i (omega (arith, long))) in
+              rw (f, one) (flags-more i u top r)
+          go false r =
+              let none : v ≡ 0 = p ∙ ap number r in
+              let back : u ≡ i - (i - getD t i 0) * 0 = rw none at q in
+              let own : u ≡ i = omega (arith, back) in
+              rw (f, own) (set-own v p ∙ flags-same i r)
 
 -- With all flags set, what settles is what level 3 keeps.
 number-test : (b : Bool) → eqb (number b) 1 ≡ b

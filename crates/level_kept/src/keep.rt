@@ -4,7 +4,8 @@ use table_entries::entry;
 ghost use mathlib.Core.Path.{_≡_};
 ghost use mathlib.Core.Bool.{true, _||_, _&&_, not};
 ghost use lib.Dec.{eqb};
-ghost use lib.ListN.{length};
+ghost use lib.ListN.{length, getD, set};
+ghost use Prim.Native.Nat.{_*_, _-_, _≤_, _<_};
 ghost use Rattle.laws.specs.Table.{table, number};
 ghost use Rattle.sheet_size.specs.Size.{within};
 ghost use Rattle.point_darts.specs.Dart.{points};
@@ -70,8 +71,22 @@ fn larges(masks: &[u16], kept: &mut [u16])
     }
 }
 
+// Writes the flag of point i: a 1 at the point's top, a 0 at the point itself, so that nothing branches.
+fn raise(tops: &[u16], kept: &mut [u16], i: usize, flag: u16)
+    requires { ⌜
+        (i < length (now tops)) × (i < length (now kept)) × (getD (now tops) i 0 ≤ i) × (flag ≤ 1)
+        ⌝ }
+    ensures { λ _. ⌜
+        now (kept .exit) ≡ set (now (kept .entry)) (i - (i - getD (now (tops .entry)) i 0) * flag) flag
+        ⌝ }
+{
+    let top = tops[i] as usize;
+    kept[i - (i - top) * (flag as usize)] = flag;
+}
+
 // Flags each point with three or four lines, and its top. No point's top is after the point, so a point at hand has its own flag
-// or none: where it has none, its own 0 is written again, and nothing branches.
+// or none, and where it has none, its own 0 is written again. The next flag is read before this one is written, since a machine
+// may hold a read back behind a write whose place it does not know yet.
 fn flag(masks: &[u16], tops: &[u16], kept: &mut [u16])
     requires { ⌜
         (length (now masks) ≡ length (now kept)) × (length (now tops) ≡ length (now kept)) × Rising (now tops)
@@ -85,13 +100,18 @@ fn flag(masks: &[u16], tops: &[u16], kept: &mut [u16])
 {
     larges(masks, kept);
     let n = tops.len();
+    if n == 0 {
+        return;
+    }
     let mut i = 0;
-    while i < n {
-        let top = tops[i] as usize;
-        let flag = kept[i];
-        kept[i - (i - top) * (flag as usize)] = flag;
+    let mut flag = kept[0];
+    while i + 1 < n {
+        let after = kept[i + 1];
+        raise(tops, kept, i, flag);
+        flag = after;
         i += 1;
     }
+    raise(tops, kept, i, flag);
 }
 
 // 1 for a point with three or four lines, and for one with lines that is its own top and has no flag; else 0.
