@@ -13,11 +13,11 @@ use lib.Dec.{eqb}
 use lib.ListN.{getD}
 use borrow.Author.Tests.{eq-eqb, ne-eqb, eqb-true}
 use Rattle.laws.specs.Table.{listed, table, number, count}
-use Rattle.laws.proofs.Count.{count-le}
 use Rattle.point_darts.specs.Dart.{mark, slots}
 use Rattle.paper.specs.Name.{label, names}
 use Rattle.paper.specs.Total.{cellsOf, total, totals, summed}
 use Rattle.paper.specs.Drawing.{Tables, drawn, drawing, Drawn}
+use Rattle.paper_laws.proofs.Added.{cells-most}
 use Rattle.paper_laws.proofs.Name.{name-le}
 use Rattle.paper_laws.proofs.Marks.{cells-slots}
 
@@ -82,10 +82,6 @@ module _ (c : ℕ → ℕ) (small : (r : ℕ) → c r < mark) where
       go false e = rw (ne-eqb (c (suc r)) mark (λ q. omega (arith, small (suc r))))
 
 module _ (w h : ℕ) (room : slots w h ≤ mark) where
-  cells-small : (n : List ℕ) (r : ℕ) → cellsOf w h n r < mark
-  unfolding cellsOf
-  cells-small n r = omega (arith, count-le (λ i. eqb (label n i) r) (w * h), cells-slots w h)
-
   names-sum : (s : List ℕ) → sum (cellsOf w h (names w h s)) 0 (w * h + 1) ≡ w * h
   unfolding cellsOf label
   names-sum s =
@@ -98,4 +94,5 @@ module _ (w h : ℕ) (room : slots w h ≤ mark) where
       let s = d .labels in
       let c = cellsOf w h (names w h s) in
       rw (← d .same)
-      (summed-listed c (total c c) (total-adds c (cells-small (names w h s))) 0 (w * h + 1) ∙ names-sum s)
+      (summed-listed c (total c c) (total-adds c (λ r. omega (arith, cells-most w h (names w h s) r, cells-slots w h))) 0 (w * h + 1)
+      ∙ names-sum s)

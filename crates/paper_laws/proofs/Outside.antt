@@ -5,7 +5,7 @@
 use mathlib.Core.Path.{_≡_, refl, sym, ap₂, _∙_}
 use mathlib.Core.Bool.{Bool, true, false, not, _&&_, and-true, and-false}
 use mathlib.Core.List.{List}
-use Prim.Native.Nat.{ℕ, zero, suc, _+_, _*_, _<_, _≤_}
+use Prim.Native.Nat.{ℕ, zero, suc, _+_, _*_, _<_, _≤_, zero-le}
 use native.Mathlib.Nat.{le-refl, one-mul, mul-one, mul-comm}
 use native.Mathlib.Numerals.{add-one}
 use native.Mathlib.Omega.{arith}
@@ -14,9 +14,9 @@ use lib.ListN.{getD}
 use borrow.Author.Tests.{lt-ltb, le-ltb, ltb-true, ltb-false, ne-eqb, not-true}
 use Rattle.laws.specs.Table.{count}
 use Rattle.laws.proofs.Test.{and-right}
-use Rattle.laws.proofs.Table.{count-agree, getD-table}
+use Rattle.laws.proofs.Table.{count-agree}
 use Rattle.laws.proofs.Count.{count-nothing, count-single, count-product}
-use Rattle.point_darts.specs.Dart.{mark, points, slots, dart}
+use Rattle.point_darts.specs.Dart.{points, slots, dart}
 use Rattle.point_darts.proofs.Darts.{place}
 use Rattle.point_darts.proofs.Count.{count-darts, count-before, count-after}
 use Rattle.paper.specs.Name.{label, names, named}
@@ -24,6 +24,7 @@ use Rattle.paper.specs.Level.{side, border}
 use Rattle.paper.specs.Total.{cellsOf, bordersOf, total, totals}
 use Rattle.paper.specs.Drawing.{Tables, drawn, drawing, Drawn}
 use Rattle.paper.specs.Joining.{at}
+use Rattle.paper_laws.proofs.Added.{at-totals}
 use Rattle.paper_laws.proofs.Name.{cell-below, name-range}
 use Rattle.paper_laws.proofs.Sheet.{across, border-sides}
 use Rattle.paper_laws.proofs.Sheet.{side-east, side-south, side-west, side-north}
@@ -178,18 +179,13 @@ module _ (w h : ℕ) (s : List ℕ) where
       rim-north,
     ) (omega arith)
 
--- the outside's entry of a table of totals
-at-outside : (w h : ℕ) (c f : ℕ → ℕ) → at (totals w h c f) 0 ≡ f 0
-unfolding at totals total
-at-outside w h c f = getD-table (w * h + 1) (total c f) 0 mark (omega arith)
-
 -- In a drawing the outside has no cell and 2 (w + h) border lines.
 pub outside-totals : (w h : ℕ) → 0 < w → 0 < h → (t : Tables) → Drawn w h t
     → (at (t .cells) 0 ≡ 0) × (at (t .borders) 0 ≡ 2 * (w + h))
-unfolding drawing drawn
+unfolding drawing drawn total
 outside-totals w h wide high t d =
     let s = d .labels in
     let n = names w h s in (
-      rw (← d .same) (at-outside w h (cellsOf w h n) (cellsOf w h n) ∙ outside-cells w h s),
-      rw (← d .same) (at-outside w h (cellsOf w h n) (bordersOf w h n) ∙ outside-borders w h s wide high),
+      rw (← d .same) (at-totals w h (cellsOf w h n) (cellsOf w h n) 0 zero-le ∙ outside-cells w h s),
+      rw (← d .same) (at-totals w h (cellsOf w h n) (bordersOf w h n) 0 zero-le ∙ outside-borders w h s wide high),
     )

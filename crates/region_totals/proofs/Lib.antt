@@ -1,3 +1,3 @@
 mod Adding
 pub mod Paper
-pub mod Tallying
+mod Tallying

@@ -1,3 +1,3 @@
 // Totals: how many cells and how many border lines each region has, from the names with the outside round them.
-pub mod tally;
+mod tally;
 pub mod total;
