@@ -34,16 +34,16 @@ module _ (c b o : List ℕ) (r : ℕ) (c₁ b₁ : List ℕ) (a : AddedUp c b o 
   borders-here : getD b₁ r 0 ≡ getD b r 0
   borders-here = a .borders .rest r (le-refl r)
 
-  pub added-fits : Small c b o → r < length c
-      → (getD c₁ r 0 + getD o r 0 ≤ mark) × (getD b₁ r 0 + getD o (length c + r) 0 ≤ mark)
-  added-fits s l = rw (cells-here, borders-here) (s r l)
+  pub added-fits : (n : ℕ) → n ≡ length c → Small c b o → r < length c
+      → (getD c₁ r 0 + getD o r 0 ≤ mark) × (getD b₁ r 0 + getD o (n + r) 0 ≤ mark)
+  added-fits n k s l = rw (cells-here, borders-here, k) (s r l)
 
-  pub added-more : length b ≡ length c → r < length c → (v u : ℕ)
+  pub added-more : (n : ℕ) → n ≡ length c → length b ≡ length c → r < length c → (v u : ℕ)
       → v ≡ cond (eqb (getD c₁ r 0 + getD o r 0) 0) mark (getD c₁ r 0 + getD o r 0)
-      → u ≡ cond (eqb (getD c₁ r 0 + getD o r 0) 0) mark (getD b₁ r 0 + getD o (length c + r) 0)
+      → u ≡ cond (eqb (getD c₁ r 0 + getD o r 0) 0) mark (getD b₁ r 0 + getD o (n + r) 0)
       → AddedUp c b o (r + 1) (set c₁ r v) (set b₁ r u)
-  added-more z l v u e f =
+  added-more n k z l v u e f =
       record {
         cells = half-more (cellsUp c o) r v c c₁ (a .cells) l (e ∙ rw cells-here);
-        borders = half-more (linesUp c b o) r u b b₁ (a .borders) (rw z l) (f ∙ rw (cells-here, borders-here));
+        borders = half-more (linesUp c b o) r u b b₁ (a .borders) (rw z l) (f ∙ rw (cells-here, borders-here, k));
       }

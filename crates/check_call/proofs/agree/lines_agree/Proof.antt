@@ -21,7 +21,8 @@ same-length-3 c = search needs
 returns : tie.Need-returns
 returns c =
     let l = c .before .before .before .before .before .before .before .before .before in
-    lines-is-drawing _ _ _ _ _ _ _ _ _ (l .before .before .before .before .before .before .before .before .before .before .pre .5) (l .draw-lines .ensures) (c .both-same .ensures)
+    let q = l .before .before .before .before .before .before .before .before .before .before .pre in
+    lines-is-drawing _ _ _ _ _ _ _ _ _ (q .5) (l .draw-lines .ensures) (c .both-same .ensures)
 
 pub lines-agree-spec : {M : Type 1} → statement M
 lines-agree-spec =

@@ -74,7 +74,8 @@ slice-aggregate-both-same-2 : tie.Need-slice-aggregate-both-same-2
 slice-aggregate-both-same-2 c =
     let t = c .before .before .before .before .before .before .before .before in
     let z = start t in
-    sym (back-long _ _ (z .args .d .now) (z .pre .5) (names-part _ _) (t .draw-totals .last .1 .1 .1 .1 .0) (t .draw-totals .kept .1 .1 .1 .1 .0))
+    sym (back-long _ _ (z .args .d .now) (z .pre .5) (names-part _ _) (t .draw-totals .last .1 .1 .1 .1 .0)
+    (t .draw-totals .kept .1 .1 .1 .1 .0))
 
 both-same-requires : tie.Need-both-same-requires
 both-same-requires c κs = search needs
@@ -94,7 +95,8 @@ returns c =
     let z = start t in
     totals-is-drawing _ _ _ _ _ _ _ _ _ _ (t .draw-totals .ensures)
     (front-back _ _ (z .args .c .now) (z .pre .4) (names-part _ _) (t .draw-totals .last .1 .1 .1 .0) (t .draw-totals .kept .1 .1 .1 .0))
-    (front-back _ _ (z .args .d .now) (z .pre .5) (names-part _ _) (t .draw-totals .last .1 .1 .1 .1 .0) (t .draw-totals .kept .1 .1 .1 .1 .0))
+    (front-back _ _ (z .args .d .now) (z .pre .5) (names-part _ _) (t .draw-totals .last .1 .1 .1 .1 .0)
+    (t .draw-totals .kept .1 .1 .1 .1 .0))
     (c .both-same .ensures)
 
 pub totals-agree-spec : {M : Type 1} → statement M

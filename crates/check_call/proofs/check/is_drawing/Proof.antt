@@ -148,14 +148,16 @@ same-length-11 c =
     let e = curved c in
     let l = lined e in
     let t = totalled l in
-    e .curves-agree .kept .1 .1 .1 .1 .1 .1 .1 .1 .1 .0 ∙ l .lines-agree .kept .1 .1 .1 .1 .1 .1 .0 ∙ t .totals-agree .kept .1 .1 .1 .1 .1 .1 .0
+    e .curves-agree .kept .1 .1 .1 .1 .1 .1 .1 .1 .1 .0
+    ∙ l .lines-agree .kept .1 .1 .1 .1 .1 .1 .0 ∙ t .totals-agree .kept .1 .1 .1 .1 .1 .1 .0
     ∙ named t .recover-names .kept .1 .1 .1 .1 .1 .0
 
 same-length-12 : tie.Need-same-length-12
 same-length-12 c =
     let e = curved c in
     let l = lined e in
-    e .curves-agree .kept .1 .1 .1 .1 .1 .1 .1 .1 .1 .1 .0 ∙ l .lines-agree .kept .1 .1 .1 .1 .1 .1 .1 .0 ∙ totalled l .totals-agree .kept .1 .1 .1 .1 .1 .1 .1 .0
+    e .curves-agree .kept .1 .1 .1 .1 .1 .1 .1 .1 .1 .1 .0
+    ∙ l .lines-agree .kept .1 .1 .1 .1 .1 .1 .1 .0 ∙ totalled l .totals-agree .kept .1 .1 .1 .1 .1 .1 .1 .0
 
 returns-3 : tie.Need-returns-3
 returns-3 c =
@@ -164,7 +166,8 @@ returns-3 c =
     let t = totalled l in
     let n = named t in
     let a = l .lines-agree .ensures in
-    is-drawing-yes _ _ _ (start n .pre .0) _ (a .0) (e .before .before .before .before .before .if2 .left) _ (t .totals-agree .ensures _ (n .recover-names .ensures))
+    is-drawing-yes _ _ _ (start n .pre .0) _ (a .0) (e .before .before .before .before .before .if2 .left) _
+    (t .totals-agree .ensures _ (n .recover-names .ensures))
     (l .before .before .before .before .before .if1 .left) _ _ (a .1) (e .curves-agree .ensures)
 
 pub is-drawing-spec : {M : Type 1} → statement M

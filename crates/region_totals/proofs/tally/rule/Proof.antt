@@ -77,7 +77,8 @@ unfolding linesAt nameAt
 loop-again c =
     let l = c .before .before .before .before .before in
     let i = l .loop .inv in
-    (ruled-more _ _ _ _ _ _ _ (c .before .before .before .before .loop-test .taken) (l .before .before .before .pre .2) (c .lines-of .ensures .0) (i .0), omega arith)
+    let t = c .before .before .before .before .loop-test .taken in
+    (ruled-more _ _ _ _ _ _ _ t (l .before .before .before .pre .2) (c .lines-of .ensures .0) (i .0), omega arith)
 
 same-length : tie.Need-same-length Inv-loop μ-loop
 same-length c = c .before .loop .inv .0 .long ∙ sym (c .before .before .before .before .pre .3 .long)

@@ -7,6 +7,19 @@ use Rattle.region_totals.proofs.Tallying.{ruled-none, tallied-none}
 use Rattle.region_totals.proofs.tally.tally.Statement.{statement}
 use Rattle.region_totals.proofs.tally.tally.Tie as tie
 
+-- From each call back to the call before it, and to the start.
+abbrev start : tie.After-clear → tie.Start
+start c = c .before .before .before .before .before .before
+
+abbrev cleared : tie.After-clear2 → tie.After-clear
+cleared c = c .before .before .before .before
+
+abbrev blank : tie.After-clear3 → tie.After-clear2
+blank c = c .before .before .before .before
+
+abbrev empty : tie.After-rule → tie.After-clear3
+empty c = c .before .before .before .before
+
 clear-requires : tie.Need-clear-requires
 clear-requires c κs = search needs
 
@@ -21,7 +34,7 @@ slice-relend-prefix-clear c = search needs
 
 slice-aggregate-clear : tie.Need-slice-aggregate-clear
 slice-aggregate-clear c =
-    let s = c .before .before .before .before .before .before .before .before .before .before .before .before .before in
+    let s = start (cleared (c .before .before .before)) in
     sym (front-long _ _ (s .args .odd .now) (s .pre .6) (omega (arith, s .pre .3)))
 
 clear-requires-3 : tie.Need-clear-requires-3
@@ -29,8 +42,9 @@ clear-requires-3 c κs = search needs
 
 rule-requires : tie.Need-rule-requires
 rule-requires c κs =
-    let k = c .before .before .before .clear3 in
-    let s = c .before .before .before .before .before .before .before .before .before .before .before .before .before .before .before .before .before in
+    let e = c .before .before .before in
+    let k = e .clear3 in
+    let s = start (cleared (blank e)) in
     let q = s .pre in
     let l = s .args .odd .now in
     let t : 2 * s .args .names ≤ 4 * s .args .points = omega (arith, q .3) in (
@@ -43,12 +57,14 @@ rule-requires c κs =
 tally-points-requires : tie.Need-tally-points-requires
 tally-points-requires c κs =
     let r = c .before .before .before .before .before in
-    let q = c .before .before .before .before .before .before .before .before .before .before .before .before .before .before .before .before .before .before .before .before .before .before .before .pre in (
+    let b = blank (empty r) in
+    let k = cleared b in
+    let q = start k .pre in (
       q .0,
       q .1,
       q .2,
       q .3,
-      tallied-none _ _ _ _ _ _ _ (r .rule .ensures) (rw (q .4) at (r .before .before .before .before .before .before .before .before .before .before .before .before .clear .ensures)) (rw (q .5) at (r .before .before .before .before .before .before .before .before .clear2 .ensures)),
+      tallied-none _ _ _ _ _ _ _ (r .rule .ensures) (rw (q .4) at (k .clear .ensures)) (rw (q .5) at (b .clear2 .ensures)),
     )
 
 same-length : tie.Need-same-length

@@ -14,17 +14,27 @@ Inv-loop width points names round cells₀ borders₀ odd₀ p₀ cells borders 
 abbrev μ-loop : tie.MeasureT-loop
 μ-loop width points names round cells₀ borders₀ odd₀ p₀ cells borders odd p = points - p
 
+-- From the turn of the loop back to the start, and from a point tallied back to the turn of the loop.
+abbrev start : tie.At-loop Inv-loop μ-loop → tie.Start Inv-loop μ-loop
+start l = l .before .before .before .before .before
+
+abbrev turn : tie.After-tally-even Inv-loop μ-loop → tie.At-loop Inv-loop μ-loop
+turn e = e .before .before .before .before .before
+
+abbrev left : tie.After-tally-even2 Inv-loop μ-loop → tie.At-loop Inv-loop μ-loop
+left e = e .before .before .before .before .before .before
+
 loop-holds : tie.Need-loop-holds Inv-loop μ-loop
 loop-holds c = (c .before .before .before .before .pre .4, omega arith)
 
 add-loop : tie.Need-add-loop Inv-loop μ-loop
 unfolding mark
-add-loop c = let s = c .before .before .before .before .before in omega (arith, c .loop .inv .1, s .pre .2)
+add-loop c = omega (arith, c .loop .inv .1, start c .pre .2)
 
 tally-even-requires : tie.Need-tally-even-requires Inv-loop μ-loop
 tally-even-requires c κs =
     let l = c .before .before .before .before in
-    let q = l .before .before .before .before .before .pre in
+    let q = start l .pre in
     (q .0, q .1, q .2, q .3, omega (arith, c .before .before .before .loop-test .taken), l .loop .inv .0)
 
 add-tally-odd : tie.Need-add-tally-odd Inv-loop μ-loop
@@ -33,8 +43,9 @@ add-tally-odd c = search needs
 tally-odd-requires : tie.Need-tally-odd-requires Inv-loop μ-loop
 tally-odd-requires c κs =
     let e = c .before .before .before .before .before in
-    let q = e .before .before .before .before .before .before .before .before .before .before .pre in
-    (q .0, q .1, q .2, q .3, e .before .before .before .before .loop-test .taken, record { cells = _; borders = _; tallied = e .tally-even .ensures })
+    let q = start (turn e) .pre in
+    let t = e .before .before .before .before .loop-test .taken in
+    (q .0, q .1, q .2, q .3, t, record { cells = _; borders = _; tallied = e .tally-even .ensures })
 
 add-p : tie.Need-add-p Inv-loop μ-loop
 add-p c = search needs
@@ -46,46 +57,58 @@ loop-again : tie.Need-loop-again Inv-loop μ-loop
 loop-again c =
     let o = c .before .before in
     let e = o .before .before .before .before .before .before in
-    let l = e .before .before .before .before .before in
+    let l = turn e in
     let z : l .loop .p + 1 + 1 ≡ l .loop .p + 2 = omega arith in
     (rw z at (o .tally-odd .ensures _ _ (e .tally-even .ensures)), omega (arith, e .before .before .before .before .loop-test .taken))
 
 tally-even-requires-2 : tie.Need-tally-even-requires-2 Inv-loop μ-loop
 tally-even-requires-2 c κs =
     let l = c .before .before .before .before .before in
-    let q = l .before .before .before .before .before .pre in
+    let q = start l .pre in
     (q .0, q .1, q .2, q .3, c .before .before .before .if1 .taken, l .loop .inv .0)
 
 same-length : tie.Need-same-length Inv-loop μ-loop
-same-length c = c .before .before .before .before .tally-even2 .ensures .long-cells ∙ sym (c .before .before .before .before .before .before .before .before .before .before .before .before .before .before .before .pre .4 .long-cells)
+same-length c =
+    let e = c .before .before .before .before in
+    e .tally-even2 .ensures .long-cells ∙ sym (start (left e) .pre .4 .long-cells)
 
 same-length-2 : tie.Need-same-length-2 Inv-loop μ-loop
-same-length-2 c = c .before .before .before .before .tally-even2 .ensures .long-borders ∙ sym (c .before .before .before .before .before .before .before .before .before .before .before .before .before .before .before .pre .4 .long-borders)
+same-length-2 c =
+    let e = c .before .before .before .before in
+    e .tally-even2 .ensures .long-borders ∙ sym (start (left e) .pre .4 .long-borders)
 
 same-length-3 : tie.Need-same-length-3 Inv-loop μ-loop
-same-length-3 c = c .before .before .before .before .before .before .before .before .before .before .loop .inv .0 .long-odd ∙ sym (c .before .before .before .before .before .before .before .before .before .before .before .before .before .before .before .pre .4 .long-odd)
+same-length-3 c =
+    let l = left (c .before .before .before .before) in
+    l .loop .inv .0 .long-odd ∙ sym (start l .pre .4 .long-odd)
 
 returns : tie.Need-returns Inv-loop μ-loop
 returns c =
     let o = c .before .before .before .before in
-    let l = o .before .before .before .before .before .before in
-    let e : l .loop .p + 1 ≡ l .before .before .before .before .before .args .points = omega
+    let l = left o in
+    let e : l .loop .p + 1 ≡ start l .args .points = omega
     (arith, o .before .before .before .before .if1 .taken, o .before .before .before .before .before .loop-test .left) in
     rw e at (o .tally-even2 .ensures)
 
 same-length-4 : tie.Need-same-length-4 Inv-loop μ-loop
-same-length-4 c = c .before .before .loop .inv .0 .long-cells ∙ sym (c .before .before .before .before .before .before .before .pre .4 .long-cells)
+same-length-4 c =
+    let l = c .before .before in
+    l .loop .inv .0 .long-cells ∙ sym (start l .pre .4 .long-cells)
 
 same-length-5 : tie.Need-same-length-5 Inv-loop μ-loop
-same-length-5 c = c .before .before .loop .inv .0 .long-borders ∙ sym (c .before .before .before .before .before .before .before .pre .4 .long-borders)
+same-length-5 c =
+    let l = c .before .before in
+    l .loop .inv .0 .long-borders ∙ sym (start l .pre .4 .long-borders)
 
 same-length-6 : tie.Need-same-length-6 Inv-loop μ-loop
-same-length-6 c = c .before .before .loop .inv .0 .long-odd ∙ sym (c .before .before .before .before .before .before .before .pre .4 .long-odd)
+same-length-6 c =
+    let l = c .before .before in
+    l .loop .inv .0 .long-odd ∙ sym (start l .pre .4 .long-odd)
 
 returns-2 : tie.Need-returns-2 Inv-loop μ-loop
 returns-2 c =
     let l = c .before .before in
-    let e : l .loop .p ≡ l .before .before .before .before .before .args .points = omega (arith, l .loop .inv .1, c .if1 .left) in
+    let e : l .loop .p ≡ start l .args .points = omega (arith, l .loop .inv .1, c .if1 .left) in
     rw e at (l .loop .inv .0)
 
 pub tally-points-spec : {M : Type 1} → statement M

@@ -15,6 +15,9 @@ Inv-loop cells₀ borders₀ odd n r₀ cells borders r = AddedUp cells₀ borde
 abbrev μ-loop : tie.MeasureT-loop
 μ-loop cells₀ borders₀ odd n r₀ cells borders r = n - r
 
+abbrev start : tie.At-loop Inv-loop μ-loop → tie.Start Inv-loop μ-loop
+start l = l .before .before .before .before
+
 loop-holds : tie.Need-loop-holds Inv-loop μ-loop
 loop-holds c = (added-none _ _ _, refl)
 
@@ -35,8 +38,9 @@ unfolding mark
 add-sum c =
     let l = c .before .before .before in
     let i = l .loop .inv in
-    let t : l .loop .r < length (l .before .before .before .before .args .cells .now) = omega (arith, c .before .before .loop-test .taken, i .1) in
-    omega (arith, added-fits _ _ _ _ _ _ (i .0) (l .before .before .before .before .pre .3) t .0)
+    let t : l .loop .r < length (start l .args .cells .now) =
+    omega (arith, c .before .before .loop-test .taken, i .1) in
+    omega (arith, added-fits _ _ _ _ _ _ (i .0) _ (i .1) (start l .pre .3) t .0)
 
 mul-lines : tie.Need-mul-lines Inv-loop μ-loop
 mul-lines c = search needs
@@ -58,8 +62,9 @@ unfolding mark
 add-lines-2 c =
     let l = c .before .before .before .before .before in
     let i = l .loop .inv in
-    let t : l .loop .r < length (l .before .before .before .before .args .cells .now) = omega (arith, c .before .before .before .before .loop-test .taken, i .1) in
-    rw (i .1) (omega (arith, added-fits _ _ _ _ _ _ (i .0) (l .before .before .before .before .pre .3) t .1))
+    let t : l .loop .r < length (start l .args .cells .now) =
+    omega (arith, c .before .before .before .before .loop-test .taken, i .1) in
+    omega (arith, added-fits _ _ _ _ _ _ (i .0) _ (i .1) (start l .pre .3) t .1)
 
 where-some-requires : tie.Need-where-some-requires Inv-loop μ-loop
 where-some-requires c κs = tt
@@ -89,9 +94,10 @@ loop-again : tie.Need-loop-again Inv-loop μ-loop
 loop-again c =
     let l = c .before .before .before .before .before .before .before in
     let i = l .loop .inv in
-    let t : l .loop .r < length (l .before .before .before .before .args .cells .now) = omega (arith, c .before .before .before .before .before .before .loop-test .taken, i .1) in (
-      added-more _ _ _ _ _ _ (i .0) (l .before .before .before .before .pre .0) t _ _ (c .before .where-some .ensures)
-          (rw (i .1) at (c .where-some2 .ensures)),
+    let t : l .loop .r < length (start l .args .cells .now) =
+    omega (arith, c .before .before .before .before .before .before .loop-test .taken, i .1) in (
+      added-more _ _ _ _ _ _ (i .0) _ (i .1) (start l .pre .0) t _ _ (c .before .where-some .ensures)
+          (c .where-some2 .ensures),
       i .1,
     )
 
@@ -105,8 +111,8 @@ returns : tie.Need-returns Inv-loop μ-loop
 returns c =
     let l = c .before in
     let i = l .loop .inv in
-    let q = l .before .before .before .before .pre in
-    let t : length (l .before .before .before .before .args .cells .now) ≤ l .loop .r = omega (arith, c .loop-test .left, i .1) in (
+    let q = start l .pre in
+    let t : length (start l .args .cells .now) ≤ l .loop .r = omega (arith, c .loop-test .left, i .1) in (
       half-all _ _ _ _ _ (i .0 .cells) refl t,
       half-all _ _ _ _ _ (i .0 .borders) (q .0) (omega (arith, q .0, t)),
     )
