@@ -24,7 +24,8 @@ module _ (w h : ℕ) (o : ℕ → Bool) (t : List ℕ) (e : t ≡ tops w h o) wh
   unfolding closed
   settle-links l k j f g = g ∙ rw (e, f)
 
--- All steps, from the tables n, s, m, o, p, c, e to the tables n₁, s₁, m₁, o₁, p₁, c₁, e₁; k has the links of level 3 after step 1.
+-- All steps, from the tables n, s, m, o, p, c, e to the tables n₁, s₁, m₁, o₁, p₁, c₁, e₁; k has the links of level 3 after step 1,
+-- which took g darts at level 1.
 module _ (w h a b : ℕ) (n s m o p c e : List ℕ) (u : a < mark) (v : b < mark) (long : length s ≡ slots w h)
     (sided : (d : ℕ) → on n d ≡ true → on s d ≡ true) (n₁ s₁ m₁ o₁ p₁ c₁ e₁ : List ℕ) (k : Links)
     (plain : n₁ ≡ removed w h (links n (table (slots w h) (reversal w))) (shared s (at (table (slots w h) (reversal w))) a b) .next)
@@ -32,7 +33,7 @@ module _ (w h a b : ℕ) (n s m o p c e : List ℕ) (u : a < mark) (v : b < mark
     (settled : links m₁ o₁ ≡ closed w h (on n₁) (smoothed w h k))
     (lowered : s₁ ≡ table (length s) (λ d. cond (on n₁ d) (lower a b (at s d)) mark))
     (found : p₁ ≡ table (w * h + 1) (parent w (on s₁) (at s₁) (tops w h (on n₁))))
-    (totals : (c₁ ≡ added a b 0 c) × (e₁ ≡ added a b (2 * sharedLines w h s a b) e)) where
+    (g : ℕ) (gone : g ≡ 2 * sharedLines w h s a b) (totals : (c₁ ≡ added a b 0 c) × (e₁ ≡ added a b g e)) where
   sides : s₁ ≡ marked w h (on n₁) (λ d. lower a b (at s d))
   unfolding marked
   sides = lowered ∙ ap (λ z. table z (λ d. cond (on n₁ d) (lower a b (at s d)) mark)) long
@@ -53,7 +54,7 @@ module _ (w h a b : ℕ) (n s m o p c e : List ℕ) (u : a < mark) (v : b < mark
 
   pub all-steps : tables n₁ s₁ m₁ o₁ p₁ c₁ e₁ ≡ joined w h (tables n s m o p c e) a b
   unfolding joined rest1 rest3
-  all-steps = rw (← plain, ← sides, ← curves, ← settled, ← named, ← totals .0, ← totals .1)
+  all-steps = rw (← plain, ← sides, ← curves, ← settled, ← named, ← totals .0, ← gone, ← totals .1)
 
 -- two work tables cleared
 pub pair-cleared : (x y u v : List ℕ) (i j : ℕ) → u ≡ replicate i 0 → v ≡ replicate j 0 → i ≡ length x → j ≡ length y

@@ -19,11 +19,11 @@ use Rattle.paper_laws.proofs.Sheet.{border-below}
 use Rattle.paper_laws.proofs.Marks.{on-marked, cells-slots, within-fits, names-side-small}
 use Rattle.paper_laws.proofs.Still.{still-joined}
 use Rattle.paper_laws.proofs.Neighbour.{used-borne}
-use Rattle.paper_laws.proofs.Added.{totals-fit, totals-here, shared-least}
+use Rattle.paper_laws.proofs.Added.{totals-fit, totals-here, shared-twice, shared-least}
 use Rattle.table_lengths.specs.Given.{tables, works}
 use Rattle.table_lengths.proofs.Tested.{stated-names, stated-slots}
 use Rattle.join_shared.specs.Mapped.{Mapped, Bare}
-use Rattle.join_totals.specs.Sums.{Sums}
+use Rattle.join_rule.specs.Sums.{Sums}
 use Rattle.join_rule.specs.Apply.{pair, Ready}
 use Rattle.join_rule.proofs.Fewer.{marked-held, on-below}
 use Rattle.join_rule.proofs.Mapping.{plain-mapped, curves-mapped, curves-bare}
@@ -75,6 +75,8 @@ drawing-sums w h s e a b j =
     record {
       cells = omega (arith, ca, cb, fa .0, fb .0);
       borders = omega (arith, da, db, fa .1, fb .1);
+      twice =
+          shared-twice a b (j .apart) (j .inner .0) (j .inner .1) w h n (omega (arith, cells-slots w h)) (omega (arith, cells-slots w h));
       less = omega (arith, da, db, shared-least a b (j .apart) (j .inner .0) (j .inner .1) w h n room ia ib ua ub);
     }
 

@@ -20,7 +20,7 @@ use Rattle.paper.specs.Refusal.{stated}
 use Rattle.paper.specs.Sitting.{Still}
 use Rattle.join_darts.specs.Visited.{Visited}
 use Rattle.join_shared.specs.Mapped.{Mapped, Bare}
-use Rattle.join_totals.specs.Sums.{Sums}
+use Rattle.join_rule.specs.Sums.{Sums}
 
 abbrev pub pair : List ℕ → List ℕ → List (List ℕ)
 pair x y = x ∷ y ∷ []

@@ -153,8 +153,8 @@ pub fn apply(
         ⌝ }
 {
     let first = list::list_darts(side1, a, b, list);
-    total::add_totals(width, height, side1, a, b, first, list, cells, borders);
-    shared::remove_plain_shared(width, height, side1, a, b, first, list, next1, back);
+    let gone = shared::remove_plain_shared(width, height, side1, a, b, first, list, next1, back);
+    total::add_totals(a, b, gone, cells, borders);
     let first3 = list::narrow(next3, first, list);
     shared::remove_shared(width, height, side1, a, b, first3, list, next3, other3);
     let n = dart::points(width, height) as usize;

@@ -2,7 +2,7 @@
 --   leaping l f d   == where a chase goes on from dart d
 --   led s l a b d   == the next of dart d, past the darts with the sides a and b, which keep theirs
 use mathlib.Core.Path.{_≡_, refl, sym, _∙_, ap}
-use mathlib.Core.Bool.{Bool, true, false, cond, not}
+use mathlib.Core.Bool.{Bool, true, false, not}
 use mathlib.Core.List.{List}
 use Prim.Native.Nat.{ℕ, zero, suc}
 use Rattle.laws.specs.Run.{run}
@@ -67,10 +67,3 @@ module _ (s : List ℕ) (l : Links) (a b d x : ℕ) (e : x ≡ at (l .next) d) w
       → r ≡ led s l a b d
   unfolding led
   led-past h r f = f ∙ rw (h, e)
-
--- a next gives way to the mark
-pub gone-mark : (c : Bool) (x y : ℕ) → c ≡ true → x ≡ cond c x y
-gone-mark c x y e = rw e
-
-pub gone-next : (c : Bool) (x y : ℕ) → c ≡ false → y ≡ cond c x y
-gone-next c x y e = rw e

@@ -66,16 +66,13 @@ bare-bounded s n o a b m f t r g =
     go d h false q = clash h (on-mark o d (r .none d q))
 
 -- whether a dart has the sides a and b is told by its own other alone
-pub unpair-here : (s o u : List ℕ) (a b d r : ℕ) → d < length u → at o d ≡ getD u d 0
-    → r ≡ cond (shared s (at u) a b d) mark (getD u d 0) → r ≡ cond (shared s (at o) a b d) mark (at o d)
+pub shared-same : (s o u : List ℕ) (a b d : ℕ) → d < length u → at o d ≡ getD u d 0
+    → shared s (at u) a b d ≡ shared s (at o) a b d
 unfolding shared
-unpair-here s o u a b d r h e f =
-    let same : at u d ≡ at o d = at-entry u d h ∙ sym e in
-    f ∙ rw (same, ← e)
+shared-same s o u a b d h e = rw (at-entry u d h ∙ sym e)
 
-pub unlink-here : (s : List ℕ) (o : ℕ → ℕ) (a b d x y r : ℕ) → x ≡ y → r ≡ cond (shared s o a b d) mark y
-    → r ≡ cond (shared s o a b d) mark x
-unlink-here s o a b d x y r e f = f ∙ rw e
+pub link-here : (p q : Bool) (x y r : ℕ) → p ≡ q → x ≡ y → r ≡ cond p mark y → r ≡ cond q mark x
+link-here p q x y r e f g = g ∙ rw (e, f)
 
 -- In a map.
 module _ (s n o : List ℕ) (a b : ℕ) (p : a < mark) (q : b < mark) (fit : length s ≤ mark)

@@ -1,4 +1,5 @@
 pub mod Chasing
+mod Counting
 pub mod Leading
 pub mod Sharing
 pub mod Sides

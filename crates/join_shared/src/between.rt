@@ -7,7 +7,7 @@ ghost use Rattle.point_darts.specs.Dart.{mark, reversal};
 ghost use Rattle.paper.specs.Joining.{at, shared};
 
 // Whether the side on a dart's left hand, that of its reversal, has a name.
-pub fn is_left(width: u16, side: &[u16], name: u16, dart: u16) -> bool
+fn is_left(width: u16, side: &[u16], name: u16, dart: u16) -> bool
     requires { ⌜ dart + 4 * (width + 2) < mark ⌝ }
     ensures { λ r. ⌜ r ≡ eqb (at (now (side .entry)) (reversal width dart)) name ⌝ }
 {

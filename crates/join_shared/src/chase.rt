@@ -10,7 +10,7 @@ ghost use Rattle.join_shared.specs.Led.{leaping, led};
 
 // Whether a dart has the sides a and b. Both sides are read and both ways compared, since which of the two regions a dart
 // bounds is hard to foresee.
-fn is_shared(side: &[u16], other: &[u16], a: u16, b: u16, dart: u16) -> bool
+pub fn is_shared(side: &[u16], other: &[u16], a: u16, b: u16, dart: u16) -> bool
     ensures { λ r. ⌜ r ≡ shared (now (side .entry)) (at (now (other .entry))) a b dart ⌝ }
 {
     let right = entry::get(side, dart);
@@ -60,11 +60,11 @@ pub fn led(side: &[u16], other: &[u16], a: u16, b: u16, next: &[u16], dart: u16)
     chase(side, other, a, b, next, after)
 }
 
-// A link of a dart; the mark where the dart has the sides a and b.
-pub fn link_left(side: &[u16], other: &[u16], a: u16, b: u16, link: u16, dart: u16) -> u16
-    ensures { λ r. ⌜ r ≡ cond (shared (now (side .entry)) (at (now (other .entry))) a b dart) mark link ⌝ }
+// The link that a dart is left with: the mark where the dart goes.
+pub fn link_left(gone: bool, link: u16) -> u16
+    ensures { λ r. ⌜ r ≡ cond gone mark link ⌝ }
 {
-    if is_shared(side, other, a, b, dart) {
+    if gone {
         return dart::MARK;
     }
     link

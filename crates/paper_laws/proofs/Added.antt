@@ -375,7 +375,8 @@ module _ (a b : ℕ) (apart : a ≢ b) (za : a ≢ 0) (zb : b ≢ 0) where
               (or-none (eqb (at (drawn w h n .side1) (reversal w d)) b))
           go (no p) = rw (ne-eqb _ a p) (omega arith)
 
-      shared-twice : count (slots w h) (shared (drawn w h n .side1) (reversal w) a b) ≡ 2 * sharedLines w h (drawn w h n .side1) a b
+      -- so the darts with the sides a and b are twice the lines that the two share
+      pub shared-twice : count (slots w h) (shared (drawn w h n .side1) (reversal w) a b) ≡ 2 * sharedLines w h (drawn w h n .side1) a b
       unfolding sharedLines
       shared-twice =
           omega (

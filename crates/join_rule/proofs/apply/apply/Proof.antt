@@ -9,7 +9,7 @@ use Rattle.paper.specs.Joining.{rest1, rest3}
 use Rattle.paper_laws.proofs.Marks.{within-fits}
 use Rattle.table_lengths.proofs.Tested.{stated-names, stated-slots}
 use Rattle.join_darts.specs.Listed.{bounds, Chained}
-use Rattle.join_darts.proofs.Listing.{bounded-all, bounded-on}
+use Rattle.join_darts.proofs.Listing.{bounded-on}
 use Rattle.join_rule.proofs.Applying.{all-steps, pair-cleared}
 use Rattle.join_rule.proofs.Visiting.{list-visits}
 use Rattle.join_rule.proofs.apply.apply.Statement.{statement}
@@ -19,14 +19,14 @@ use Rattle.join_rule.proofs.apply.apply.Tie as tie
 abbrev start : tie.After-list-darts → tie.Start
 start c = c .before .before .before .before .before .before .before .before .before .before .before .before
 
-abbrev totalled : tie.After-remove-plain-shared → tie.After-add-totals
-totalled c = c .before .before .before .before .before .before .before .before .before
-
 abbrev listed : tie.After-remove-plain-shared → tie.After-list-darts
-listed c = totalled c .before .before .before .before .before .before .before
+listed c = c .before .before .before .before .before .before .before
+
+abbrev totalled : tie.After-narrow → tie.After-add-totals
+totalled c = c .before .before .before .before .before .before .before
 
 abbrev plain : tie.After-narrow → tie.After-remove-plain-shared
-plain c = c .before .before .before .before .before .before .before
+plain c = totalled c .before .before .before .before .before .before .before
 
 abbrev narrowed : tie.After-remove-shared → tie.After-narrow
 narrowed c = c .before .before .before .before .before .before .before
@@ -86,16 +86,9 @@ list-darts-requires c κs =
     let z = stated-slots _ _ _ _ (q .sizes) in
     (z .1 .0 ∙ sym (z .1 .1 .1 .1 .1 .0), omega (arith, z .1 .1 .1 .1 .1 .0, within-fits _ _ (q .size)))
 
-add-totals-requires : tie.Need-add-totals-requires
-add-totals-requires c κs =
-    let l = c .before .before .before .before .before .before in
-    let q = start l .pre in
-    let z = stated-slots _ _ _ _ (q .sizes) in
-    (q .size, z .1 .0, list-long l, rw (z .1 .1 .1 .1 .1 .0) at (l .list-darts .ensures), q .sums)
-
 remove-plain-shared-requires : tie.Need-remove-plain-shared-requires
 remove-plain-shared-requires c κs =
-    let l = c .before .before .before .before .before .before .before .before .before .before .before .before .before .before .before in
+    let l = c .before .before .before .before .before .before in
     let q = start l .pre in
     let z = stated-slots _ _ _ _ (q .sizes) in (
       q .size,
@@ -105,13 +98,19 @@ remove-plain-shared-requires c κs =
       list-long l,
       z .0,
       z .1 .1 .1 .1 .0,
-      bounded-all _ _ _ _ _ _ _ (rw (z .1 .1 .1 .1 .1 .0) at (l .list-darts .ensures)),
+      rw (z .1 .1 .1 .1 .1 .0) at (l .list-darts .ensures),
       q .plain,
     )
 
+add-totals-requires : tie.Need-add-totals-requires
+add-totals-requires c κs =
+    let p = c .before .before .before .before .before .before in
+    let s = start (listed p) .pre .sums in
+    (s .cells, s .borders, omega (arith, p .remove-plain-shared .ensures .1, s .twice, s .less))
+
 narrow-requires : tie.Need-narrow-requires
 narrow-requires c κs =
-    let l = listed (c .before .before .before .before .before .before) in
+    let l = listed (c .before .before .before .before .before .before .before .before .before .before .before .before .before) in
     let q = start l .pre in
     let z = stated-slots _ _ _ _ (q .sizes) in
     let e = list-long l in (
@@ -168,7 +167,7 @@ settle-requires c κs =
       length-take-le _ _ (work-room n) ∙ n .points .ensures,
       narrow-long m,
       list-visits _ _ _ _ _ _ _ (q .still) (rw (list-long l) at (m .narrow .ensures (lined-bounds l))) _ _
-          (p .remove-plain-shared .ensures) (e .remove-shared .ensures),
+          (p .remove-plain-shared .ensures .0) (e .remove-shared .ensures),
     )
 
 clear-requires : tie.Need-clear-requires
@@ -195,10 +194,10 @@ same-length-5 : tie.Need-same-length-5
 same-length-5 c = end c .settle .kept .1 .1 .1 .1 .1 .1 .1 .1 .1 .1 .0
 
 same-length-6 : tie.Need-same-length-6
-same-length-6 c = totalled (plain (narrowed (curved (sized (end c))))) .add-totals .kept .1 .1 .1 .1 .1 .1 .1 .0
+same-length-6 c = totalled (narrowed (curved (sized (end c)))) .add-totals .kept .1 .1 .1 .0
 
 same-length-7 : tie.Need-same-length-7
-same-length-7 c = totalled (plain (narrowed (curved (sized (end c))))) .add-totals .kept .1 .1 .1 .1 .1 .1 .1 .1 .0
+same-length-7 c = totalled (narrowed (curved (sized (end c)))) .add-totals .kept .1 .1 .1 .1 .0
 
 -- also that of the reversals, whose front is lent for the tops
 back-kept : (s : tie.After-settle)
@@ -231,8 +230,9 @@ returns c =
     let a = start (listed p) in
     let z = stated-slots _ _ _ _ (a .pre .sizes) in (
       all-steps _ _ _ _ _ _ _ _ _ _ _ (a .pre .first) (a .pre .second) (z .1 .0) (a .pre .sided) _ _ _ _ _ _ _ _
-          (p .remove-plain-shared .ensures) (e .remove-shared .ensures) (s .settle .ensures .0) (s .settle .ensures .1)
-          (s .settle .ensures .2) (totalled p .add-totals .ensures),
+          (p .remove-plain-shared .ensures .0) (e .remove-shared .ensures) (s .settle .ensures .0) (s .settle .ensures .1)
+          (s .settle .ensures .2) _ (p .remove-plain-shared .ensures .1 ∙ a .pre .sums .twice)
+          (totalled (narrowed e) .add-totals .ensures),
       pair-cleared _ _ _ _ _ _ (backless (cleared c) .clear .ensures) (cleared c .clear2 .ensures)
           (back-kept s) (list-kept (narrowed e)),
     )
@@ -242,8 +242,8 @@ apply-spec =
     tie.close
     (tie.spec
     list-darts-requires
-    add-totals-requires
     remove-plain-shared-requires
+    add-totals-requires
     narrow-requires
     remove-shared-requires
     points-requires

@@ -27,8 +27,11 @@ returns c =
     let u = c .before .before in
     let d = u .before .before .before .before in
     let q = d .before .before .before .before .before .before .pre in
-    removed-nexts _ _ _ _ _ (q .1) (q .2) (omega (arith, q .0, q .3)) (q .7) _ _ (q .5) _ _ _ _ (q .5)
-    (d .lead .kept .1 .1 .1 .1 .1 .1 .0 ∙ q .5) (d .lead .ensures) (u .unlink .ensures)
+    let e = d .lead .kept .1 .1 .1 .1 .1 .1 .0 ∙ q .5 in (
+      removed-nexts _ _ _ _ _ (q .1) (q .2) (omega (arith, q .0, q .3)) (q .7) _ _ (q .5) _ _ _ _ (q .5) e (d .lead .ensures)
+          (u .unlink .ensures .0),
+      rw e at (u .unlink .ensures .1),
+    )
 
 pub remove-nexts-spec : {M : Type 1} → statement M
 remove-nexts-spec = tie.close (tie.spec lead-requires unlink-requires same-length returns)

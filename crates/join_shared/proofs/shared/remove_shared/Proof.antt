@@ -25,7 +25,7 @@ returns c =
     let d = u .before .before .before .before in
     let q = d .before .before .before .before .before .before .before .pre in
     removed-others _ _ _ _ _ (q .1) (q .2) (omega (arith, q .0, q .3)) (q .8) _ _ (q .5) (q .9) _ _ _ (q .6)
-    (d .remove-nexts .ensures) (u .unpair .ensures)
+    (d .remove-nexts .ensures .0) (u .unpair .ensures)
 
 pub remove-shared-spec : {M : Type 1} → statement M
 remove-shared-spec =

@@ -1,3 +1,4 @@
+use mathlib.Core.Path.{_∙_}
 use mathlib.Core.Bool.{cond}
 use Prim.Native.Nat.{_-_}
 use native.Mathlib.Omega.{arith}
@@ -5,7 +6,7 @@ use lib.ListN.{length}
 use Rattle.point_darts.specs.Dart.{mark}
 use Rattle.paper.specs.Joining.{at, shared}
 use Rattle.join_darts.specs.Listed.{Bounded}
-use Rattle.join_shared.proofs.Leading.{unlisted-keeps, unpair-here}
+use Rattle.join_shared.proofs.Leading.{unlisted-keeps, shared-same, link-here}
 use Rattle.join_shared.proofs.Treating.{Treated, treated-none, treated-more, treated-all, treated-here}
 use Rattle.join_shared.proofs.shared.unpair.Statement.{statement}
 use Rattle.join_shared.proofs.shared.unpair.Tie as tie
@@ -25,16 +26,21 @@ cast-n c = omega (arith, c .before .before .before .pre .0)
 loop-holds : tie.Need-loop-holds Inv-loop μ-loop
 loop-holds c = λ g. treated-none _ _ _ (λ d b e. unlisted-keeps _ _ _ _ _ _ _ _ g d e) _ _ (g .list)
 
+is-shared-requires : tie.Need-is-shared-requires Inv-loop μ-loop
+is-shared-requires c κs = tt
+
 cast-link-left : tie.Need-cast-link-left Inv-loop μ-loop
 cast-link-left c = omega arith
 
 mul-link-left : tie.Need-mul-link-left Inv-loop μ-loop
 unfolding mark
-mul-link-left c = omega (arith, c .before .before .before .before .before .before .pre .0, c .before .loop-test .taken)
+mul-link-left c =
+    let i = c .before .before in
+    omega (arith, i .before .before .before .before .before .pre .0, i .loop-test .taken)
 
-slice-reshared-read-link-left : tie.Need-slice-reshared-read-link-left Inv-loop μ-loop
-slice-reshared-read-link-left c =
-    let i = c .before in
+slice-read-link-left : tie.Need-slice-read-link-left Inv-loop μ-loop
+slice-read-link-left c =
+    let i = c .before .before .before in
     omega (arith, i .before .loop .inv (i .before .before .before .before .before .pre .3) .half .long, i .loop-test .taken)
 
 link-left-requires : tie.Need-link-left-requires Inv-loop μ-loop
@@ -45,11 +51,13 @@ cast-other c = omega arith
 
 mul-other : tie.Need-mul-other Inv-loop μ-loop
 unfolding mark
-mul-other c = omega (arith, c .before .before .before .before .before .before .before .pre .0, c .before .before .loop-test .taken)
+mul-other c =
+    let i = c .before .before .before .before in
+    omega (arith, i .before .before .before .before .before .pre .0, i .loop-test .taken)
 
 slice-write-other : tie.Need-slice-write-other Inv-loop μ-loop
 slice-write-other c =
-    let i = c .before .before in
+    let i = c .before .before .before .before in
     omega (arith, i .before .loop .inv (i .before .before .before .before .before .pre .3) .half .long, i .loop-test .taken)
 
 cast-dart : tie.Need-cast-dart Inv-loop μ-loop
@@ -57,16 +65,18 @@ cast-dart c = omega arith
 
 mul-dart : tie.Need-mul-dart Inv-loop μ-loop
 unfolding mark
-mul-dart c = omega (arith, c .before .before .before .before .before .before .before .pre .0, c .before .before .loop-test .taken)
+mul-dart c =
+    let i = c .before .before .before .before in
+    omega (arith, i .before .before .before .before .before .pre .0, i .loop-test .taken)
 
 shared-slice-read-dart : tie.Need-shared-slice-read-dart Inv-loop μ-loop
 shared-slice-read-dart c =
-    let i = c .before .before .before in
+    let i = c .before .before .before .before .before in
     omega (arith, i .before .before .before .before .before .pre .2, i .loop-test .taken)
 
 loop-less : tie.Need-loop-less Inv-loop μ-loop
 loop-less c =
-    let i = c .before .before .before in
+    let i = c .before .before .before .before .before in
     let g = i .before .before .before .before .before .pre .3 in
     let h = i .loop-test .taken in
     let f = g .list .steps _ h (i .before .loop .inv g .here h) in
@@ -74,13 +84,14 @@ loop-less c =
 
 loop-again : tie.Need-loop-again Inv-loop μ-loop
 loop-again c =
-    let i = c .before .before .before in
+    let i = c .before .before .before .before .before in
     let h = i .loop-test .taken in
     λ g.
     let r = i .before .loop .inv g in
+    let e = treated-here _ _ _ (λ d b e. unlisted-keeps _ _ _ _ _ _ _ _ g d e) _ _ r h in
     treated-more _ _ _ (λ d b e. unlisted-keeps _ _ _ _ _ _ _ _ g d e) _ _ (g .list) _ _ _ r h
-    (unpair-here _ _ _ _ _ _ _ (omega (arith, r .half .long))
-    (treated-here _ _ _ (λ d b e. unlisted-keeps _ _ _ _ _ _ _ _ g d e) _ _ r h) (c .before .link-left .ensures))
+    (link-here _ _ _ _ _ (c .before .before .before .is-shared .ensures ∙ shared-same _ _ _ _ _ _ (omega (arith, r .half .long)) e) e
+    (c .before .link-left .ensures))
 
 same-length : tie.Need-same-length Inv-loop μ-loop
 same-length c = c .before .loop .inv (c .before .before .before .before .before .pre .3) .half .long
@@ -98,9 +109,10 @@ unpair-spec =
     μ-loop
     cast-n
     loop-holds
+    is-shared-requires
     cast-link-left
     mul-link-left
-    slice-reshared-read-link-left
+    slice-read-link-left
     link-left-requires
     cast-other
     mul-other

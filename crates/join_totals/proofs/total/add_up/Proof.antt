@@ -1,7 +1,7 @@
 use mathlib.Core.Path.{_∙_}
 use native.Mathlib.Omega.{arith}
 use Rattle.point_darts.specs.Dart.{mark}
-use Rattle.join_totals.proofs.Counting.{added-less, added-more}
+use Rattle.join_totals.proofs.Adding.{added-less, added-more}
 use borrow.Author.Needs.{needs}
 use Rattle.join_totals.proofs.total.add_up.Statement.{statement}
 use Rattle.join_totals.proofs.total.add_up.Tie as tie
