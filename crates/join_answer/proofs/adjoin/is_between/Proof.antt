@@ -1,8 +1,8 @@
 use mathlib.Core.Path.{_∙_}
 use borrow.Author.Needs.{needs}
 use Rattle.join_shared.proofs.Sides.{shared-first, shared-second, shared-neither}
-use Rattle.join_shared.proofs.between.is_between.Statement.{statement}
-use Rattle.join_shared.proofs.between.is_between.Tie as tie
+use Rattle.join_answer.proofs.adjoin.is_between.Statement.{statement}
+use Rattle.join_answer.proofs.adjoin.is_between.Tie as tie
 
 get-requires : tie.Need-get-requires
 get-requires c κs = tt

@@ -1,6 +1,6 @@
 use borrow.Author.Needs.{needs}
-use Rattle.join_shared.proofs.between.is_left.Statement.{statement}
-use Rattle.join_shared.proofs.between.is_left.Tie as tie
+use Rattle.join_answer.proofs.adjoin.is_left.Statement.{statement}
+use Rattle.join_answer.proofs.adjoin.is_left.Tie as tie
 
 back-requires : tie.Need-back-requires
 back-requires c κs = search needs
