@@ -1,7 +1,6 @@
 -- What three tables have tallied, added up in place, name by name.
---   cellsUp c o r   == the cells of the name r in the tables c and o, the mark where there is none
---   linesUp c b o r == its lines in the tables b and o, the mark where it has no cell
---   AddedUp c b o r c₁ b₁ == of the tables c and b the entries below r have become those, in c₁ and b₁
+--   cellTotal c o r, lineTotal m c b o r == the totals of the name r, from the tables c, b and o
+--   AddedUp c b o r c₁ b₁ == of the tables c and b the entries below r have become these totals, in c₁ and b₁
 use mathlib.Core.Path.{_≡_, _∙_}
 use mathlib.Core.Bool.{cond}
 use mathlib.Core.List.{List}
@@ -11,20 +10,14 @@ use lib.Dec.{eqb}
 use lib.ListN.{length, getD, set}
 use Rattle.point_darts.specs.Dart.{mark}
 use Rattle.table_entries.proofs.Half.{Half, half-none, half-more}
-use Rattle.region_totals.specs.Tally.{borneIn, linedIn, Small}
-
-abbrev pub cellsUp : List ℕ → List ℕ → ℕ → ℕ
-cellsUp c o r = cond (eqb (borneIn c o r) 0) mark (borneIn c o r)
-
-abbrev pub linesUp : List ℕ → List ℕ → List ℕ → ℕ → ℕ
-linesUp c b o r = cond (eqb (borneIn c o r) 0) mark (linedIn (length c) b o r)
+use Rattle.region_totals.specs.Tally.{cellTotal, lineTotal, Small}
 
 pub record AddedUp (c b o : List ℕ) (r : ℕ) (c₁ b₁ : List ℕ) : Type 0 where
-  pub cells : Half (cellsUp c o) r c c₁
-  pub borders : Half (linesUp c b o) r b b₁
+  pub cells : Half (cellTotal c o) r c c₁
+  pub borders : Half (lineTotal (length c) c b o) r b b₁
 
 pub added-none : (c b o : List ℕ) → AddedUp c b o 0 c b
-added-none c b o = record { cells = half-none (cellsUp c o) c; borders = half-none (linesUp c b o) b }
+added-none c b o = record { cells = half-none (cellTotal c o) c; borders = half-none (lineTotal (length c) c b o) b }
 
 module _ (c b o : List ℕ) (r : ℕ) (c₁ b₁ : List ℕ) (a : AddedUp c b o r c₁ b₁) where
   -- an entry that is not yet treated
@@ -44,6 +37,6 @@ module _ (c b o : List ℕ) (r : ℕ) (c₁ b₁ : List ℕ) (a : AddedUp c b o 
       → AddedUp c b o (r + 1) (set c₁ r v) (set b₁ r u)
   added-more n k z l v u e f =
       record {
-        cells = half-more (cellsUp c o) r v c c₁ (a .cells) l (e ∙ rw cells-here);
-        borders = half-more (linesUp c b o) r u b b₁ (a .borders) (rw z l) (f ∙ rw (cells-here, borders-here, k));
+        cells = half-more (cellTotal c o) r v c c₁ (a .cells) l (e ∙ rw cells-here);
+        borders = half-more (lineTotal (length c) c b o) r u b b₁ (a .borders) (rw z l) (f ∙ rw (cells-here, borders-here, k));
       }

@@ -38,8 +38,7 @@ use Rattle.paper_laws.proofs.Added.{length-totals, at-totals}
 use Rattle.paper_laws.proofs.Outside.{outside-cells}
 use Rattle.region_names.specs.Frame.{surround, framed}
 use Rattle.region_names.proofs.Surround.{named-at, framed-at, cells-framed, outside-north, outside-west, outside-south}
-use Rattle.region_totals.proofs.Adding.{cellsUp, linesUp}
-use Rattle.region_totals.specs.Tally.{nameAt, linesAt, weighed, borneIn, linedIn, Named, Tallied}
+use Rattle.region_totals.specs.Tally.{nameAt, linesAt, weighed, borneIn, cellTotal, lineTotal, Named, Tallied}
 use Rattle.region_totals.specs.Total.{Totalled}
 
 -- Sums by name as counts.
@@ -229,7 +228,7 @@ module _ (w h : ℕ) (s : List ℕ) where
             eq-eqb (nameAt w f w) 0 (p ∙ named-east w h n (suc w) 1 (le-refl (suc w)))
 
     abbrev lines : ℕ → ℕ
-    lines r = cond (eqb (borneIn c o r) 0) mark (linedIn (w * h + 1) b o r)
+    lines = lineTotal (w * h + 1) c b o
 
     entry : (r : ℕ) → r < w * h + 1 → lines r ≡ total (cellsOf w h n) (bordersOf w h n) r
     unfolding total
@@ -241,14 +240,14 @@ module _ (w h : ℕ) (s : List ℕ) where
     tallied-borders = table-agree (w * h + 1) lines (total (cellsOf w h n) (bordersOf w h n)) entry
 
     abbrev counted : List ℕ
-    counted = table (w * h + 1) (cellsUp c o)
+    counted = table (w * h + 1) (cellTotal c o)
 
     cell-entry : (r : ℕ) → r < w * h + 1 → at (set counted 0 0) r ≡ total (cellsOf w h n) (cellsOf w h n) r
     unfolding total at
     cell-entry zero l = getD-set-same counted 0 0 mark (rw (length-table (w * h + 1) _) l) ∙ sym (outside-cells w h s)
     cell-entry (suc i) l =
         getD-set-other counted 0 (suc i) 0 mark (λ e. omega arith)
-        ∙ getD-table (w * h + 1) (cellsUp c o) (suc i) mark l
+        ∙ getD-table (w * h + 1) (cellTotal c o) (suc i) mark l
         ∙ rw (t .cells (suc i) l, weighed-cells i)
 
     tallied-cells : set counted 0 0 ≡ drawn w h n .cells
@@ -261,7 +260,7 @@ module _ (w h : ℕ) (s : List ℕ) where
 
 -- The tables, from a tally of all points by any names f.
 module _ (w h m n : ℕ) (f c b o c₁ b₁ : List ℕ) (t : Tallied w m n f n c b o) (p : n ≡ points w h) (z : m ≡ w * h + 1)
-    (k : length c ≡ m) (u : c₁ ≡ table (length c) (cellsUp c o)) (v : b₁ ≡ table (length c) (linesUp c b o)) where
+    (k : length c ≡ m) (u : c₁ ≡ table (length c) (cellTotal c o)) (v : b₁ ≡ table (length c) (lineTotal (length c) c b o)) where
   module _ (l : List ℕ) (e : f ≡ framed w h (names w h l)) where
     told : Tallied w (w * h + 1) (points w h) (framed w h (names w h l)) (points w h) c b o
     told = rw (← p, ← z, ← e) t
@@ -274,7 +273,7 @@ module _ (w h m n : ℕ) (f c b o c₁ b₁ : List ℕ) (t : Tallied w m n f n c
 
     borders-all : b₁ ≡ drawn w h (names w h l) .borders
     borders-all =
-        v ∙ ap (λ j. table j (λ r. cond (eqb (borneIn c o r) 0) mark (linedIn j b o r))) long ∙ tallied-borders w h l c b o told
+        v ∙ ap (λ j. table j (lineTotal j c b o)) long ∙ tallied-borders w h l c b o told
 
   pub totals-all : Totalled w h f (set c₁ 0 0) b₁
   totals-all = record { cells = cells-all; borders = borders-all }

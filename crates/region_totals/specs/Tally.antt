@@ -4,6 +4,7 @@
 --   weighed v k r i == k p added up over the numbers p below i that have v p = r
 --   borneIn c o r   == the cells of the name r, in the tables c and o
 --   linedIn m b o r == the lines of the name r, in the tables b and o
+--   cellTotal c o r, lineTotal m c b o r == these totals, the mark for a name without cells
 --   Named m f       == every name is below m
 --   Small c b o     == no two entries of a name are too large to be added
 --   Ruled w m n f i o == after two entries for each name, all 0, the table o has the lines of the cells of the points below i
@@ -35,6 +36,12 @@ borneIn c o r = getD c r 0 + getD o r 0
 
 abbrev pub linedIn : ℕ → List ℕ → List ℕ → ℕ → ℕ
 linedIn m b o r = getD b r 0 + getD o (m + r) 0
+
+abbrev pub cellTotal : List ℕ → List ℕ → ℕ → ℕ
+cellTotal c o r = cond (eqb (borneIn c o r) 0) mark (borneIn c o r)
+
+abbrev pub lineTotal : ℕ → List ℕ → List ℕ → List ℕ → ℕ → ℕ
+lineTotal m c b o r = cond (eqb (borneIn c o r) 0) mark (linedIn m b o r)
 
 abbrev pub Named : ℕ → List ℕ → Type 0
 Named m f = (k : ℕ) → getD f k 0 < m

@@ -10,7 +10,7 @@ ghost use Rattle.laws.specs.Table.{table};
 ghost use Rattle.sheet_size.specs.Size.{within};
 ghost use Rattle.point_darts.specs.Dart.{mark, points, slots};
 ghost use Rattle.region_names.specs.Frame.{surround};
-ghost use Rattle.region_totals.specs.Tally.{Named, Small, borneIn, linedIn};
+ghost use Rattle.region_totals.specs.Tally.{Named, Small, cellTotal, lineTotal};
 ghost use Rattle.region_totals.specs.Total.{Totalled};
 
 // A value, the mark where there is no cell.
@@ -28,14 +28,10 @@ fn add_up(cells: &mut [u16], borders: &mut [u16], odd: &[u16])
         (length (now odd) < mark) × Small (now cells) (now borders) (now odd)
         ⌝ }
     ensures { λ _. ⌜
-        (now (cells .exit) ≡
-        table (length (now (cells .entry)))
-        (λ r. cond (eqb (borneIn (now (cells .entry)) (now (odd .entry)) r) 0) mark
-        (borneIn (now (cells .entry)) (now (odd .entry)) r))) ×
+        (now (cells .exit) ≡ table (length (now (cells .entry))) (cellTotal (now (cells .entry)) (now (odd .entry)))) ×
         (now (borders .exit) ≡
         table (length (now (cells .entry)))
-        (λ r. cond (eqb (borneIn (now (cells .entry)) (now (odd .entry)) r) 0) mark
-        (linedIn (length (now (cells .entry))) (now (borders .entry)) (now (odd .entry)) r)))
+        (lineTotal (length (now (cells .entry))) (now (cells .entry)) (now (borders .entry)) (now (odd .entry))))
         ⌝ }
 {
     let n = cells.len();
