@@ -1,6 +1,6 @@
 -- The outcomes that an answer tells.
 --   outcome k vs ts us ws == the outcome with the number k: done, the values vs and the tables us; else the tables ts
---   work-left k ws  == what such an outcome leaves of the work tables ws
+--   workLeft k ws   == what such an outcome leaves of the work tables ws
 --   told r ts ws    == the outcome that the answer r tells, with no values
 use mathlib.Core.Path.{_≡_, refl, sym, ap, _∙_}
 use mathlib.Core.Bool.{cond}
@@ -8,25 +8,21 @@ use mathlib.Core.List.{List, []}
 use mathlib.Core.Logic.{_≢_}
 use Prim.Native.Nat.{ℕ, zero, suc, _≤_, _<_}
 use native.Mathlib.Omega.{arith}
-use lib.Dec.{eqb, ltb}
+use lib.Dec.{eqb}
 use borrow.Author.Tests.{lt-ltb, le-ltb}
-use Rattle.paper.specs.Refusal.{Outcome, ended, outcome, cleared}
+use Rattle.paper.specs.Refusal.{Outcome, ended, workLeft, outcome, cleared}
 use Rattle.answer.specs.declared.Answer.{Answer}
 use Rattle.answer.specs.Answer.{numberOf, told}
 
-pub work-left : ℕ → List (List ℕ) → List (List ℕ)
-work-left zero ws = cleared ws
-work-left (suc k) ws = cond (ltb k 4) ws (cleared ws)
-
 -- refusals 1 to 4 leave the work tables
-pub work-kept : (k : ℕ) (ws : List (List ℕ)) → k ≢ 0 → k < 5 → work-left k ws ≡ ws
-unfolding work-left
+pub work-kept : (k : ℕ) (ws : List (List ℕ)) → k ≢ 0 → k < 5 → workLeft k ws ≡ ws
+unfolding workLeft
 work-kept zero ws n l = absurd (n refl)
 work-kept (suc k) ws n l = rw (lt-ltb k 4 (omega (arith, l)))
 
 -- done and the later refusals clear them
-pub work-cleared : (k : ℕ) (ws : List (List ℕ)) → (k ≢ 0 → 5 ≤ k) → work-left k ws ≡ cleared ws
-unfolding work-left
+pub work-cleared : (k : ℕ) (ws : List (List ℕ)) → (k ≢ 0 → 5 ≤ k) → workLeft k ws ≡ cleared ws
+unfolding workLeft
 work-cleared zero ws l = refl
 work-cleared (suc k) ws l = rw (le-ltb k 4 (omega (arith, l (λ z. omega (arith, z)))))
 
@@ -40,31 +36,31 @@ module _ (k : ℕ) (vs : List ℕ) (ts us ws : List (List ℕ)) where
       by zero = refl
       by (suc k) = refl
 
-  pub outcome-work : outcome k vs ts us ws .work ≡ work-left k ws
-  unfolding outcome work-left
+  pub outcome-work : outcome k vs ts us ws .work ≡ workLeft k ws
+  unfolding outcome workLeft
   outcome-work = by k
     where
-      by : (k : ℕ) → outcome k vs ts us ws .work ≡ work-left k ws
+      by : (k : ℕ) → outcome k vs ts us ws .work ≡ workLeft k ws
       by zero = refl
       by (suc k) = refl
 
   -- an outcome that refuses, and one that is done
-  pub outcome-refused : k ≢ 0 → (xs : List (List ℕ)) → xs ≡ work-left k ws → ended k [] ts xs ≡ outcome k vs ts us ws
-  unfolding outcome work-left
+  pub outcome-refused : k ≢ 0 → (xs : List (List ℕ)) → xs ≡ workLeft k ws → ended k [] ts xs ≡ outcome k vs ts us ws
+  unfolding outcome workLeft
   outcome-refused = by k
     where
-      by : (k : ℕ) → k ≢ 0 → (xs : List (List ℕ)) → xs ≡ work-left k ws → ended k [] ts xs ≡ outcome k vs ts us ws
+      by : (k : ℕ) → k ≢ 0 → (xs : List (List ℕ)) → xs ≡ workLeft k ws → ended k [] ts xs ≡ outcome k vs ts us ws
       by zero n xs e = absurd (n refl)
       by (suc k) n xs e = rw e
 
   pub outcome-done : k ≡ 0 → (zs xs : List (List ℕ)) → zs ≡ us → xs ≡ cleared ws
       → ended 0 vs zs xs ≡ outcome k vs ts us ws
-  unfolding outcome
+  unfolding outcome workLeft
   outcome-done e zs xs p q = rw (e, p, q)
 
 -- An answer of a number.
 module _ (r : Answer) (k : ℕ) (e : numberOf r ≡ k) where
-  pub told-refused : numberOf r ≢ 0 → (vs : List ℕ) (ts us ws xs : List (List ℕ)) → xs ≡ work-left k ws
+  pub told-refused : numberOf r ≢ 0 → (vs : List ℕ) (ts us ws xs : List (List ℕ)) → xs ≡ workLeft k ws
       → told r ts xs ≡ outcome k vs ts us ws
   unfolding told
   told-refused n vs ts us ws xs p = rw e (outcome-refused k vs ts us ws (λ z. n (e ∙ z)) xs p)
@@ -79,11 +75,11 @@ module _ (r : Answer) (k : ℕ) (e : numberOf r ≡ k) where
   told-done z ts us ws zs xs p q = rw z (outcome-done k [] ts us ws (sym e ∙ z) zs xs p q)
 
   -- a call that leaves its tables, whatever it answers
-  pub told-left : (ts ws xs : List (List ℕ)) → xs ≡ work-left k ws → told r ts xs ≡ outcome k [] ts ts ws
-  unfolding told work-left outcome
+  pub told-left : (ts ws xs : List (List ℕ)) → xs ≡ workLeft k ws → told r ts xs ≡ outcome k [] ts ts ws
+  unfolding told workLeft outcome
   told-left ts ws xs p = rw e (by k p)
     where
-      by : (k : ℕ) → xs ≡ work-left k ws → ended k [] ts xs ≡ outcome k [] ts ts ws
+      by : (k : ℕ) → xs ≡ workLeft k ws → ended k [] ts xs ≡ outcome k [] ts ts ws
       by zero p = rw p
       by (suc k) p = rw p
 
@@ -109,7 +105,8 @@ answerOf n =
     (cond (eqb n 6) Answer.Outside
     (cond (eqb n 7) Answer.Equal
     (cond (eqb n 8) Answer.Name
-    Answer.Apart))))))))
+    (cond (eqb n 9) Answer.Apart
+    Answer.List)))))))))
 
 answer-of : (r : Answer) → answerOf (numberOf r) ≡ r
 unfolding answerOf numberOf
@@ -123,6 +120,7 @@ answer-of Answer.Outside = refl
 answer-of Answer.Equal = refl
 answer-of Answer.Name = refl
 answer-of Answer.Apart = refl
+answer-of Answer.List = refl
 
 pub number-one : (r q : Answer) → numberOf r ≡ numberOf q → r ≡ q
 number-one r q e = sym (answer-of r) ∙ ap answerOf e ∙ answer-of q

@@ -23,6 +23,8 @@ pub enum Answer {
     Name,
     // Two regions share no line.
     Apart,
+    // A list of names is not one of pairs, or it has too many.
+    List,
 }
 
 impl Answer {
@@ -41,6 +43,7 @@ impl Answer {
             Answer::Equal => 7,
             Answer::Name => 8,
             Answer::Apart => 9,
+            Answer::List => 12,
         }
     }
 }

@@ -12,10 +12,10 @@ use Rattle.laws.specs.First.{firstFailed, numbered}
 use Rattle.laws.proofs.First.{Passed, all-passed, passed-append, stopped-append}
 use Rattle.sheet_size.specs.Size.{within}
 use Rattle.paper.specs.Drawing.{Tables, isDrawing}
-use Rattle.paper.specs.Refusal.{Outcome, stated, cleared, outcome, seven, sizeTests, givenTests}
+use Rattle.paper.specs.Refusal.{Outcome, workLeft, stated, cleared, outcome, seven, sizeTests, givenTests}
 use Rattle.answer.specs.declared.Answer.{Answer}
 use Rattle.answer.specs.Answer.{numberOf, told}
-use Rattle.answer.proofs.Outcome.{work-left, work-cleared, outcome-number, outcome-work, told-refused}
+use Rattle.answer.proofs.Outcome.{work-cleared, outcome-number, outcome-work, told-refused}
 use Rattle.check_answer.specs.Check.{checked}
 
 pub size-numbered : (w h : ℕ) (k : Bool) → numbered 1 5 (sizeTests w h k) ≡ true
@@ -33,7 +33,7 @@ module _ (w h : ℕ) (t : Tables) (ws : List (List ℕ)) where
     unfolding told checked
     given-number = ap (λ (o : Outcome). o .number) e ∙ outcome-number (firstFailed (givenTests w h t ws)) [] (seven t) (seven t) ws
 
-    pub given-work : vs ≡ work-left (firstFailed (givenTests w h t ws)) ws
+    pub given-work : vs ≡ workLeft (firstFailed (givenTests w h t ws)) ws
     unfolding told checked
     given-work = ap (λ (o : Outcome). o .work) e ∙ outcome-work (firstFailed (givenTests w h t ws)) [] (seven t) (seven t) ws
 
@@ -58,7 +58,7 @@ module _ (w h : ℕ) (t : Tables) (ws : List (List ℕ)) where
       accepted-is-drawing = all .1 .1 .0
 
       pub accepted-work : vs ≡ cleared ws
-      accepted-work = given-work ∙ ap (λ k. work-left k ws) passed ∙ work-cleared 0 ws (λ n. absurd (n refl))
+      accepted-work = given-work ∙ ap (λ k. workLeft k ws) passed ∙ work-cleared 0 ws (λ n. absurd (n refl))
 
       -- a call that tests more after it
       pub accepted-on : (us : List (Bool × ℕ)) → firstFailed (givenTests w h t ws ++ us) ≡ firstFailed us
@@ -73,4 +73,4 @@ module _ (w h : ℕ) (t : Tables) (ws : List (List ℕ)) where
           → told v (seven t) vs ≡ outcome (firstFailed (givenTests w h t ws ++ us)) ns (seven t) zs ws
       refused-stops ns zs =
           told-refused v (firstFailed (givenTests w h t ws ++ us)) (given-number ∙ sym refused-on) n ns (seven t) zs ws vs
-          (given-work ∙ ap (λ k. work-left k ws) (sym refused-on))
+          (given-work ∙ ap (λ k. workLeft k ws) (sym refused-on))

@@ -14,10 +14,10 @@ use Rattle.laws.proofs.First.{all-passed, failed-below}
 use Rattle.laws.proofs.Test.{and-right}
 use Rattle.sheet_size.specs.Size.{within}
 use Rattle.paper.specs.Drawing.{Tables, isDrawing}
-use Rattle.paper.specs.Refusal.{Outcome, stated, seven, sizeTests, givenTests}
+use Rattle.paper.specs.Refusal.{Outcome, workLeft, stated, seven, sizeTests, givenTests}
 use Rattle.answer.specs.declared.Answer.{Answer}
 use Rattle.answer.specs.Answer.{numberOf, told}
-use Rattle.answer.proofs.Outcome.{work-left, work-cleared, outcome-number, outcome-work, told-early, told-refused, told-done}
+use Rattle.answer.proofs.Outcome.{work-cleared, outcome-number, outcome-work, told-early, told-refused, told-done}
 use Rattle.check_answer.specs.Check.{checked}
 use Rattle.check_answer.proofs.Given.{size-numbered}
 use Rattle.count_call.specs.Tally.{fillRefusal, judged, filled}
@@ -68,7 +68,7 @@ module _ (w h : ℕ) (t : Tables) (k : Bool) (ws : List (List ℕ)) where
     unfolding told judged
     number = ap (λ (o : Outcome). o .number) answered ∙ outcome-number (fillRefusal w h t k ws) [] (seven t) (seven t) ws
 
-    work : vs ≡ work-left (fillRefusal w h t k ws) ws
+    work : vs ≡ workLeft (fillRefusal w h t k ws) ws
     unfolding told judged
     work = ap (λ (o : Outcome). o .work) answered ∙ outcome-work (fillRefusal w h t k ws) [] (seven t) (seven t) ws
 
@@ -93,4 +93,4 @@ module _ (w h : ℕ) (t : Tables) (k : Bool) (ws : List (List ℕ)) where
       unfolding filled numberOf
       fill-done ms fs gs us p u =
           told-done Answer.Done (fillRefusal w h t k ws) (sym z ∙ number) refl (seven t ++ ms) (seven t ++ fs) ws (seven t ++ gs) us
-          (rw p) (u ∙ work ∙ ap (λ r. work-left r ws) (sym number ∙ z) ∙ work-cleared 0 ws (λ q. absurd (q refl)))
+          (rw p) (u ∙ work ∙ ap (λ r. workLeft r ws) (sym number ∙ z) ∙ work-cleared 0 ws (λ q. absurd (q refl)))

@@ -18,9 +18,10 @@ use Rattle.paper.specs.Contour.{reached, contour, outermost, innerContou
 use Rattle.paper.specs.Drawing.{drawn, drawing, fresh, recover, recovered, same, isDrawing}
 use Rattle.paper.specs.Joining.{at, on, between, shared, chase, removed, rest1, rest3, low, high, spliced}
 use Rattle.paper.specs.Joining.{smooth, smooths, smoothed, moved, close, closes, closed, sharedLines, added, joined}
-use Rattle.paper.specs.Refusal.{sized, cleared, outcome, levelTests, levelRefusal, levelTables, levelled}
+use Rattle.paper.specs.Refusal.{sized, cleared, workLeft, outcome, levelTests, levelRefusal, levelTables, levelled}
 use Rattle.paper.specs.Refusal.{seven, stated, drawTests, drawRefusal, mapped, sizeTests, givenTests, used, adjoin, nameTests}
 use Rattle.paper.specs.Refusal.{joinRefusal, merged, countRefusal, deepened, holed}
+use Rattle.paper.specs.Order.{pairs, whole, unless, joins, listTests, listStop, placed, mergedList}
 use Rattle.laws.proofs.Cases.{failed}
 
 laws-open : Unit {0}
@@ -60,14 +61,18 @@ unfolding at on between shared chase removed rest1 rest3 low high spliced smooth
 joins-open = tt
 
 refusals-open : Unit {0}
-unfolding sized cleared outcome levelTests levelRefusal levelTables levelled seven stated drawTests drawRefusal mapped sizeTests
+unfolding sized cleared workLeft outcome levelTests levelRefusal levelTables levelled seven stated drawTests drawRefusal mapped sizeTests
 refusals-open = tt
 
 names-open : Unit {0}
 unfolding givenTests used adjoin nameTests joinRefusal merged countRefusal deepened holed
 names-open = tt
 
+lists-open : Unit {0}
+unfolding pairs whole unless joins listTests listStop placed mergedList
+lists-open = tt
+
 unfoldable pub opened : Unit {0}
 unfolding laws-open points-open turns-open masks-open levels-open contours-open drawings-open totals-open joins-open refusals-open
-    names-open failed
+    names-open lists-open failed
 opened = tt

@@ -16,6 +16,7 @@ use Rattle.laws.proofs.Equal.{equal-true}
 use Rattle.laws.proofs.Test.{and-left, and-right}
 use Rattle.paper.specs.Drawing.{Tables, drawing}
 use Rattle.paper.specs.Refusal.{Outcome, ended, seven, levelled, mapped, merged, deepened, holed}
+use Rattle.paper.specs.Order.{whole, mergedList, grouping, grouped}
 use Rattle.paper.proofs.Opened.{opened}
 
 unfoldable pub same-tables : List (List ℕ) → List (List ℕ) → Bool
@@ -55,6 +56,10 @@ outcome-equal o p e =
 
 unfoldable pub refused : ℕ → List (List ℕ) → List (List ℕ) → Outcome
 refused k ts ws = ended k [] ts ws
+
+-- a list of joins that stops with the number k at the place i
+stopped : ℕ → ℕ → Tables → List (List ℕ) → Outcome
+stopped k i t ws = ended k (i ∷ []) (seven t) ws
 
 -- the mark, as the tables below have it
 unfoldable pub none : ℕ
@@ -166,6 +171,19 @@ calls =
     ∷ record { computed = merged 2 2 four 1 4 (works 36 36); stated = refused 9 (seven four) (clean 36) }
     ∷ record { computed = merged 2 1 two 1 2 (works 24 24); stated = ended 0 [] (seven joined-two) (clean 24) }
     ∷ record { computed = merged 2 1 two 2 1 (works 24 24); stated = ended 0 [] (seven joined-two) (clean 24) }
+    -- joining by a list
+    ∷ record { computed = mergedList 1 0 (rubbish 3) (0 ∷ []) (works 16 17); stated = stopped 1 0 (rubbish 3) (works 16 17) }
+    ∷ record { computed = mergedList 1 1 (rubbish 3) (0 ∷ []) (works 16 16); stated = stopped 4 0 (rubbish 3) (works 16 16) }
+    ∷ record { computed = mergedList 1 1 (rubbish 2) (0 ∷ []) (works 16 17); stated = stopped 4 0 (rubbish 2) (works 16 17) }
+    ∷ record { computed = mergedList 1 1 (rubbish 2) (0 ∷ []) (works 16 16); stated = stopped 12 0 (rubbish 2) (clean 16) }
+    ∷ record { computed = mergedList 1 1 (rubbish 2) (0 ∷ 0 ∷ []) (works 16 16); stated = stopped 5 0 (rubbish 2) (clean 16) }
+    ∷ record { computed = mergedList 2 1 two (0 ∷ 0 ∷ 1 ∷ 2 ∷ []) (works 24 24); stated = stopped 6 0 two (clean 24) }
+    ∷ record { computed = mergedList 2 1 two (1 ∷ 2 ∷ 3 ∷ 0 ∷ []) (works 24 24); stated = stopped 6 1 joined-two (clean 24) }
+    ∷ record { computed = mergedList 2 1 two (1 ∷ 2 ∷ 3 ∷ 3 ∷ []) (works 24 24); stated = stopped 7 1 joined-two (clean 24) }
+    ∷ record { computed = mergedList 2 1 two (2 ∷ 1 ∷ 1 ∷ 2 ∷ []) (works 24 24); stated = stopped 8 1 joined-two (clean 24) }
+    ∷ record { computed = mergedList 2 2 four (1 ∷ 4 ∷ 1 ∷ 2 ∷ []) (works 36 36); stated = stopped 9 0 four (clean 36) }
+    ∷ record { computed = mergedList 2 1 two [] (works 24 24); stated = ended 0 [] (seven two) (clean 24) }
+    ∷ record { computed = mergedList 2 1 two (1 ∷ 2 ∷ []) (works 24 24); stated = ended 0 [] (seven joined-two) (clean 24) }
     -- depth
     ∷ record { computed = deepened 111 1 (rubbish 3) 9 (works 16 17); stated = refused 1 (seven (rubbish 3)) (works 16 17) }
     ∷ record { computed = deepened 1 1 (rubbish 2) 9 (works 16 17); stated = refused 4 (seven (rubbish 2)) (works 16 17) }
@@ -188,8 +206,23 @@ unfolding opened same-tables same-outcome refused none next-1 side-1 anchored on
 calls-open = tt
 
 calls-hold : failed same-outcome 0 calls ≡ []
-unfolding calls-open other-1 two four lent calls
+unfolding calls-open stopped other-1 two four lent calls
 calls-hold = refl
 
 outcome-cases : map (λ (c : Case Outcome). c .computed) calls ≡ map (λ (c : Case Outcome). c .stated) calls
 outcome-cases = none-failed same-outcome outcome-equal 0 calls calls-hold
+
+-- Which lengths a list may have: pairs up to 5,183 of them, for wide sheets up to 7,919.
+lengths-hold : map (whole 72) (0 ∷ 1 ∷ 2 ∷ 10366 ∷ 10367 ∷ 10368 ∷ []) ≡ true ∷ false ∷ true ∷ true ∷ false ∷ false ∷ []
+unfolding whole
+lengths-hold = refl
+
+wide-lengths-hold : map (whole 73) (0 ∷ 1 ∷ 2 ∷ 15838 ∷ 15839 ∷ 15840 ∷ []) ≡ true ∷ false ∷ true ∷ true ∷ false ∷ false ∷ []
+unfolding whole
+wide-lengths-hold = refl
+
+-- Which cells are together: the two of P2 are not, joined they are; of P7 no two are, though two and two have one label.
+grouped-hold : grouped 2 1 two 0 1 ∷ grouped 2 1 joined-two 0 1 ∷ grouped 2 2 four 0 3 ∷ grouped 2 2 four 1 1 ∷ []
+    ≡ false ∷ true ∷ false ∷ true ∷ []
+unfolding calls-open two four grouping grouped
+grouped-hold = refl

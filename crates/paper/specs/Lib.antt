@@ -4,6 +4,7 @@ pub mod Enclosure
 pub mod Joining
 pub mod Level
 pub mod Name
+pub mod Order
 pub mod Refusal
 pub mod Sitting
 pub mod Total

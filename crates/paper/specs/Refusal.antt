@@ -3,6 +3,7 @@
 --   values          == the numbers that are answered
 --   tables, work    == what the lent tables and the work tables hold afterwards, in the order in which they are lent
 --   ended k vs ts ws == the outcome with the number k, the values vs, and these tables and work tables left
+--   workLeft k ws   == what an outcome with the number k leaves of the work tables ws
 --   .. Tests        == the tests of a call in the paper's order, each with the number of the refusal where it is not passed: n is the
 --                      sheet's length, k says that the lengths of the tables are the stated ones
 --   .. Refusal      == the number of the first refusal, 0 for none
@@ -39,10 +40,15 @@ sized n (t ∷ ts) = eqb (length t) n && sized n ts
 unfoldable pub cleared : List (List ℕ) → List (List ℕ)
 cleared ws = map (λ t. replicate (length t) 0) ws
 
--- a refusal leaves the tables; refusals 1 to 4 leave the work tables, every later outcome clears them
+-- refusals 1 to 4 leave the work tables, every later outcome clears them
+unfoldable pub workLeft : ℕ → List (List ℕ) → List (List ℕ)
+workLeft zero ws = cleared ws
+workLeft (suc r) ws = cond (ltb r 4) ws (cleared ws)
+
+-- a refusal leaves the tables
 unfoldable pub outcome : ℕ → List ℕ → List (List ℕ) → List (List ℕ) → List (List ℕ) → Outcome
-outcome zero values before after ws = ended 0 values after (cleared ws)
-outcome (suc r) values before after ws = ended (suc r) [] before (cond (ltb r 4) ws (cleared ws))
+outcome zero values before after ws = ended 0 values after (workLeft 0 ws)
+outcome (suc r) values before after ws = ended (suc r) [] before (workLeft (suc r) ws)
 
 -- Level drawing.
 unfoldable pub levelTests : ℕ → ℕ → ℕ → ℕ → Bool → List (Bool × ℕ)
@@ -104,8 +110,12 @@ adjoin w h s a b = some (slots w h) (shared s (reversal w) a b)
 unfoldable pub nameTests : List ℕ → ℕ → ℕ → List (Bool × ℕ)
 nameTests p a b = (not (eqb a 0 || eqb b 0), 6) ∷ (not (eqb a b), 7) ∷ (used p a && used p b, 8) ∷ []
 
+-- two names, by the level 1 sides s and the parents p
+abbrev pub pairTests : ℕ → ℕ → List ℕ → List ℕ → ℕ → ℕ → List (Bool × ℕ)
+pairTests w h s p a b = nameTests p a b ++ (adjoin w h s a b, 9) ∷ []
+
 unfoldable pub joinRefusal : ℕ → ℕ → Tables → ℕ → ℕ → List (List ℕ) → ℕ
-joinRefusal w h t a b ws = firstFailed (givenTests w h t ws ++ nameTests (t .parent) a b ++ (adjoin w h (t .side1) a b, 9) ∷ [])
+joinRefusal w h t a b ws = firstFailed (givenTests w h t ws ++ pairTests w h (t .side1) (t .parent) a b)
 
 unfoldable pub merged : ℕ → ℕ → Tables → ℕ → ℕ → List (List ℕ) → Outcome
 merged w h t a b ws =

@@ -50,12 +50,12 @@ module _ (w h : ℕ) (n : List ℕ) (r : ℕ) where
       (omega (arith, cells-most, cells-slots w h), omega (arith, borders-most))
 
 -- Entries of a table of totals.
-total-used : (c f : ℕ → ℕ) (r : ℕ) → c r ≢ 0 → total c f r ≡ f r
+pub total-used : (c f : ℕ → ℕ) (r : ℕ) → c r ≢ 0 → total c f r ≡ f r
 unfolding total
 total-used c f zero e = refl
 total-used c f (suc i) e = rw (ne-eqb (c (suc i)) 0 e)
 
-total-unused : (c f : ℕ → ℕ) (r : ℕ) → r ≢ 0 → c r ≡ 0 → total c f r ≡ mark
+pub total-unused : (c f : ℕ → ℕ) (r : ℕ) → r ≢ 0 → c r ≡ 0 → total c f r ≡ mark
 unfolding total
 total-unused c f zero z e = absurd (z refl)
 total-unused c f (suc i) z e = rw (eq-eqb (c (suc i)) 0 e)

@@ -15,6 +15,7 @@ pub mod First
 pub mod Grid
 pub mod Held
 pub mod Hole
+pub mod InUse
 pub mod IsDrawing
 pub mod Joined
 pub mod Kept
@@ -24,6 +25,7 @@ pub mod Midway
 pub mod Name
 pub mod Neighbour
 pub mod Next
+pub mod Order
 pub mod Outer
 pub mod Outside
 pub mod Pair
