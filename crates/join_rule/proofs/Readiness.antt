@@ -8,11 +8,13 @@ use borrow.Author.Tests.{eq-eqb}
 use Rattle.laws.proofs.Test.{and-true, and-left}
 use Rattle.sheet_size.specs.Size.{within}
 use Rattle.laws.specs.Table.{table}
+use Rattle.laws.proofs.Table.{length-table}
 use Rattle.point_darts.specs.Dart.{mark, slots, reversal}
 use Rattle.paper.specs.Name.{names}
-use Rattle.paper.specs.Level.{side, border, next, plain, level}
+use Rattle.paper.specs.Level.{side, border, next, plain, level, tops}
+use Rattle.paper.specs.Enclosure.{parent, parents}
 use Rattle.paper.specs.Drawing.{Tables, drawn, drawing, Drawn}
-use Rattle.paper.specs.Joining.{on}
+use Rattle.paper.specs.Joining.{at, on, rest1, rest3}
 use Rattle.paper.specs.Refusal.{sized, stated, used}
 use Rattle.paper.specs.Sitting.{Joinable}
 use Rattle.paper_laws.proofs.Sheet.{border-below}
@@ -24,7 +26,7 @@ use Rattle.table_lengths.specs.Given.{tables, works}
 use Rattle.table_lengths.proofs.Tested.{stated-names, stated-slots}
 use Rattle.join_shared.specs.Mapped.{Mapped, Bare}
 use Rattle.join_rule.specs.Sums.{Sums}
-use Rattle.join_rule.specs.Apply.{pair, Ready}
+use Rattle.join_rule.specs.Apply.{pair, found, Ready}
 use Rattle.join_rule.proofs.Fewer.{marked-held, on-below}
 use Rattle.join_rule.proofs.Mapping.{plain-mapped, curves-mapped, curves-bare}
 
@@ -98,27 +100,52 @@ drawn-ready w h t ws a b e f g j =
     }
 
 -- Two work tables, the first of four.
-pub ready-pair : (w h : ℕ) (x s y o p u v a b c d : List ℕ) (i j : ℕ) → Ready w h (tables x s y o p u v) (works a b c d) i j
-    → Ready w h (tables x s y o p u v) (pair a b) i j
-unfolding stated sized
-ready-pair w h x s y o p u v a b c d i j r =
-    let names : Bool = sized (w * h + 1) (p ∷ u ∷ v ∷ []) in
-    let z = stated-slots w h (tables x s y o p u v) (works a b c d) (r .sizes) in
-    let work = z .1 .1 .1 .1 in
+module _ (w h : ℕ) (t : Tables) (a b c d : List ℕ) where
+  pub stated-pair : stated w h t (works a b c d) ≡ true → stated w h t (pair a b) ≡ true
+  unfolding stated sized
+  stated-pair e =
+      let names : Bool = sized (w * h + 1) (t .parent ∷ t .cells ∷ t .borders ∷ []) in
+      let z = stated-slots w h t (works a b c d) e in
+      let work = z .1 .1 .1 .1 in
+      and-true {a = names}
+      (and-left names (sized (slots w h) (t .next1 ∷ t .side1 ∷ t .next3 ∷ t .other3 ∷ works a b c d)) e)
+      (and-true (eq-eqb _ _ (z .0))
+      (and-true (eq-eqb _ _ (z .1 .0))
+      (and-true (eq-eqb _ _ (z .1 .1 .0))
+      (and-true (eq-eqb _ _ (z .1 .1 .1 .0))
+      (and-true (eq-eqb _ _ (work .0)) (and-true (eq-eqb _ _ (work .1 .0)) refl))))))
+
+  pub ready-pair : (i j : ℕ) → Ready w h t (works a b c d) i j → Ready w h t (pair a b) i j
+  ready-pair i j r =
+      record {
+        size = r .size;
+        sizes = stated-pair (r .sizes);
+        first = r .first;
+        second = r .second;
+        sided = r .sided;
+        plain = r .plain;
+        curves = r .curves;
+        bare = r .bare;
+        still = r .still;
+        sums = r .sums;
+      }
+
+-- The parents are not read, so they may be those that the sides tell.
+pub ready-found : (w h : ℕ) (x s y o p u v : List ℕ) (ws : List (List ℕ)) (i j : ℕ) → Ready w h (tables x s y o p u v) ws i j
+    → Ready w h (found w h x s y o u v) ws i j
+unfolding stated sized parents rest1 rest3
+ready-found w h x s y o p u v ws i j r =
+    let z = stated-names w h (tables x s y o p u v) ws (r .sizes) in
+    let e = length-table (w * h + 1) (parent w (on s) (at s) (tops w h (on s))) in
     record {
       size = r .size;
-      sizes = and-true {a = names} (and-left names (sized (slots w h) (x ∷ s ∷ y ∷ o ∷ works a b c d)) (r .sizes))
-          (and-true (eq-eqb _ _ (z .0))
-          (and-true (eq-eqb _ _ (z .1 .0))
-          (and-true (eq-eqb _ _ (z .1 .1 .0))
-          (and-true (eq-eqb _ _ (z .1 .1 .1 .0))
-          (and-true (eq-eqb _ _ (work .0)) (and-true (eq-eqb _ _ (work .1 .0)) refl))))));
+      sizes = rw e (rw (z .0) at (r .sizes));
       first = r .first;
       second = r .second;
       sided = r .sided;
       plain = r .plain;
       curves = r .curves;
       bare = r .bare;
-      still = r .still;
+      still = record { smoothing = r .still .smoothing; closing = r .still .closing };
       sums = r .sums;
     }

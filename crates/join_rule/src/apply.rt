@@ -18,12 +18,12 @@ ghost use Rattle.laws.specs.Least.{lower};
 ghost use Rattle.sheet_size.specs.Size.{within};
 ghost use Rattle.point_darts.specs.Dart.{mark, points, slots};
 ghost use Rattle.paper.specs.Level.{tops};
-ghost use Rattle.paper.specs.Enclosure.{parent};
+ghost use Rattle.paper.specs.Enclosure.{parents};
 ghost use Rattle.paper.specs.Joining.{at, on, smoothed, closed, joined};
 ghost use Rattle.paper.specs.Refusal.{cleared};
 ghost use Rattle.table_lengths.specs.Given.{tables};
 ghost use Rattle.join_darts.specs.Links.{links};
-ghost use Rattle.join_rule.specs.Apply.{pair, Visits, Ready};
+ghost use Rattle.join_rule.specs.Apply.{pair, found, Topped, Visits, Ready};
 
 // Steps 3 and 4 at level 3: points go, and closed curves move to their anchors. Before has entries for the lines before the
 // join, lines for those that remain; the tops of their pieces are left in top. The list leads to every point where there is
@@ -78,8 +78,9 @@ fn settle_curves(
     );
 }
 
-// Steps 3 to 5 from the lines that remain and the sides before the join: curves are settled, the names a and b become the
-// smaller, parents are found. Top is work; the list leads to every point where there is something to settle.
+// Steps 3 to 5, but for totals and parents, from the lines that remain and the sides before the join: curves are settled, the names
+// a and b become the smaller. The tops of the pieces are left in top; the list leads to every point where there is something to
+// settle.
 fn settle(
     width: u16,
     height: u16,
@@ -91,14 +92,12 @@ fn settle(
     side: &mut [u16],
     next: &mut [u16],
     other: &mut [u16],
-    parents: &mut [u16],
     top: &mut [u16],
 )
     requires { ⌜
         (within width height ≡ true) × (length (now lines) ≡ slots width height) ×
         (length (now side) ≡ slots width height) × (length (now next) ≡ slots width height) ×
-        (length (now parents) ≡ width * height + 1) × (length (now top) ≡ points width height) ×
-        (length (now list) ≡ slots width height) ×
+        (length (now top) ≡ points width height) × (length (now list) ≡ slots width height) ×
         Visits width height (on (now lines)) (links (now next) (now other)) first (now list)
         ⌝ }
     ensures { λ _. ⌜
@@ -108,14 +107,92 @@ fn settle(
         (now (side .exit) ≡
         table (length (now (side .entry)))
         (λ d. cond (on (now (lines .entry)) d) (lower a b (at (now (side .entry)) d)) mark)) ×
-        (now (parents .exit) ≡
-        table (width * height + 1)
-        (parent width (on (now (side .exit))) (at (now (side .exit))) (tops width height (on (now (lines .entry))))))
+        (now (top .exit) ≡ tops width height (on (now (lines .entry))))
         ⌝ }
 {
     settle_curves(width, height, first, list, side, lines, next, other, top);
     side::lower_sides(a, b, lines, side);
-    parent::find_parents(width, height, side, top, parents);
+}
+
+// Joining of the regions a and b by the removal rule, but for the parents, which are left to `find_parents`: in the other six tables
+// of a drawing. The tops of the pieces are left at the front of back; list is work.
+pub fn unite(
+    width: u16,
+    height: u16,
+    a: u16,
+    b: u16,
+    next1: &mut [u16],
+    side1: &mut [u16],
+    next3: &mut [u16],
+    other3: &mut [u16],
+    cells: &mut [u16],
+    borders: &mut [u16],
+    back: &mut [u16],
+    list: &mut [u16],
+)
+    requires { ⌜
+        Ready width height
+        (found width height (now next1) (now side1) (now next3) (now other3) (now cells) (now borders))
+        (pair (now back) (now list))
+        a
+        b
+        ⌝ }
+    ensures { λ _. ⌜
+        (found width height (now (next1 .exit)) (now (side1 .exit)) (now (next3 .exit)) (now (other3 .exit)) (now (cells .exit))
+        (now (borders .exit)) ≡
+        joined width height
+        (found width height (now (next1 .entry)) (now (side1 .entry)) (now (next3 .entry)) (now (other3 .entry))
+        (now (cells .entry)) (now (borders .entry)))
+        a
+        b) ×
+        Topped width height (now (side1 .exit)) (now (back .exit))
+        ⌝ }
+{
+    let first = list::list_darts(side1, a, b, list);
+    let gone = shared::remove_plain_shared(width, height, side1, a, b, first, list, next1, back);
+    total::add_totals(a, b, gone, cells, borders);
+    let first3 = list::narrow(next3, first, list);
+    shared::remove_shared(width, height, side1, a, b, first3, list, next3, other3);
+    let n = dart::points(width, height) as usize;
+    settle(
+        width,
+        height,
+        a,
+        b,
+        first3,
+        list,
+        next1,
+        side1,
+        next3,
+        other3,
+        &mut back[..n],
+    );
+}
+
+// Step 5, parents: found from the sides of the lines that remain and the tops of their pieces, which stand at the front of back.
+// Back and list are left with every entry 0.
+pub fn find_parents(
+    width: u16,
+    height: u16,
+    side1: &[u16],
+    parent: &mut [u16],
+    back: &mut [u16],
+    list: &mut [u16],
+)
+    requires { ⌜
+        (within width height ≡ true) × (length (now side1) ≡ slots width height) ×
+        (length (now parent) ≡ width * height + 1) × (length (now back) ≡ slots width height) ×
+        Topped width height (now side1) (now back)
+        ⌝ }
+    ensures { λ _. ⌜
+        (now (parent .exit) ≡ parents width height (on (now (side1 .entry))) (at (now (side1 .entry)))) ×
+        (pair (now (back .exit)) (now (list .exit)) ≡ cleared (pair (now (back .entry)) (now (list .entry))))
+        ⌝ }
+{
+    let n = dart::points(width, height) as usize;
+    parent::find_parents(width, height, side1, &back[..n], parent);
+    entry::clear(back);
+    entry::clear(list);
 }
 
 // Joining of the regions a and b by the removal rule, in the seven tables of a drawing. Back and list are work tables, which
@@ -152,26 +229,19 @@ pub fn apply(
         (pair (now (back .exit)) (now (list .exit)) ≡ cleared (pair (now (back .entry)) (now (list .entry))))
         ⌝ }
 {
-    let first = list::list_darts(side1, a, b, list);
-    let gone = shared::remove_plain_shared(width, height, side1, a, b, first, list, next1, back);
-    total::add_totals(a, b, gone, cells, borders);
-    let first3 = list::narrow(next3, first, list);
-    shared::remove_shared(width, height, side1, a, b, first3, list, next3, other3);
-    let n = dart::points(width, height) as usize;
-    settle(
+    unite(
         width,
         height,
         a,
         b,
-        first3,
-        list,
         next1,
         side1,
         next3,
         other3,
-        parent,
-        &mut back[..n],
+        cells,
+        borders,
+        back,
+        list,
     );
-    entry::clear(back);
-    entry::clear(list);
+    find_parents(width, height, side1, parent, back, list);
 }
