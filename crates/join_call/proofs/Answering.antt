@@ -1,27 +1,26 @@
 -- The outcomes of joining, after a check of the drawing.
 --   merged w h t a b ws == the outcome of joining a and b in the tables t with the work tables ws
 --   asked v w h s p a b == the number after a check that answered v, of the names a and b by the sides s and the parents p
-use mathlib.Core.Path.{_≡_, refl, sym, ap, ap₂, _∙_}
-use mathlib.Core.Bool.{Bool, true, false, _&&_, _||_}
-use mathlib.Core.List.{List, [], _∷_, _++_}
+use mathlib.Core.Path.{_≡_, refl, sym, ap, _∙_}
+use mathlib.Core.Bool.{Bool, true, false}
+use mathlib.Core.List.{List, []}
 use mathlib.Core.Logic.{_≢_}
 use Prim.Native.Nat.{ℕ}
 use native.Mathlib.Omega.{arith}
-use lib.Dec.{eqb, lit<}
-use lib.ListN.{length, replicate, length-replicate}
-use borrow.Author.Tests.{eqb-true, eqb-false, eq-eqb, ne-eqb, not-true}
-use Rattle.laws.specs.First.{firstFailed, numbered}
-use Rattle.laws.proofs.First.{Passed, all-passed, failed-from}
-use Rattle.laws.proofs.Test.{and-left, and-right}
+use lib.Dec.{eqb}
+use borrow.Author.Tests.{eqb-true, eqb-false, eq-eqb, ne-eqb}
+use Rattle.laws.specs.First.{firstFailed}
+use Rattle.laws.proofs.First.{failed-from}
 use Rattle.sheet_size.specs.Size.{within}
 use Rattle.paper.specs.Drawing.{Tables, Drawn}
 use Rattle.paper.specs.Joining.{joined}
-use Rattle.paper.specs.Refusal.{sized, stated, cleared, seven, used, adjoin, sizeTests, givenTests, nameTests, joinRefusal, merged}
+use Rattle.paper.specs.Refusal.{workLeft, cleared, seven, sizeTests, givenTests, nameTests, pairTests, joinRefusal, merged}
 use Rattle.paper.specs.Sitting.{Joinable}
 use Rattle.paper_laws.proofs.IsDrawing.{is-drawing-drawn}
+use Rattle.paper_laws.proofs.Order.{pair-numbered, passed-joinable}
 use Rattle.answer.specs.declared.Answer.{Answer}
 use Rattle.answer.specs.Answer.{numberOf, told}
-use Rattle.answer.proofs.Outcome.{work-left, work-cleared, told-refused, told-done}
+use Rattle.answer.proofs.Outcome.{work-cleared, told-refused, told-done}
 use Rattle.table_lengths.specs.Given.{works}
 use Rattle.check_answer.specs.Check.{checked}
 use Rattle.check_answer.proofs.Given.{given-number, given-work, accepted-within, accepted-stated, accepted-is-drawing}
@@ -31,31 +30,7 @@ use Rattle.join_rule.specs.Apply.{pair, Ready}
 use Rattle.join_rule.proofs.Readiness.{drawn-ready}
 use Rattle.join_call.specs.Faithful.{Faithful}
 use Rattle.join_call.proofs.Afresh.{joined-faithful}
-
--- Work tables that are cleared are as long as they were, and clearing them again changes nothing.
-cleared-twice : (ws : List (List ℕ)) → cleared (cleared ws) ≡ cleared ws
-unfolding cleared
-cleared-twice [] = refl
-cleared-twice (t ∷ ts) = ap₂ _∷_ (ap (λ n. replicate n 0) (length-replicate (length t) 0)) (cleared-twice ts)
-
-cleared-sized : (n : ℕ) (ws : List (List ℕ)) → sized n (cleared ws) ≡ sized n ws
-unfolding cleared sized
-cleared-sized n [] = refl
-cleared-sized n (t ∷ ts) = ap₂ _&&_ (ap (λ k. eqb k n) (length-replicate (length t) 0)) (cleared-sized n ts)
-
-cleared-stated : (w h : ℕ) (t : Tables) (ws : List (List ℕ)) → stated w h t (cleared ws) ≡ stated w h t ws
-unfolding stated sized
-cleared-stated w h t ws = rw cleared-sized
-
--- where all four are cleared, and then the first two again
-rest-cleared : (a b c d x y : List ℕ) → works a b c d ≡ cleared (works a b c d) → pair x y ≡ cleared (pair a b)
-    → works x y c d ≡ cleared (works a b c d)
-unfolding cleared
-rest-cleared a b c d x y e f = cc
-
-or-neither : (p q : Bool) → (p || q) ≡ false → (p ≡ false) × (q ≡ false)
-or-neither true q e = absurd (let z : _≡_ {A = ℕ} 0 1 = cc in omega arith)
-or-neither false q e = (refl, e)
+use Rattle.join_call.proofs.Cleared.{cleared-twice, cleared-stated, rest-cleared}
 
 -- Joining a and b in the tables t after a check that answered v and left the work tables vs, where the names are answered by o:
 -- what is promised of the tables u and the work tables xs that it leaves with the answer r.
@@ -66,11 +41,7 @@ module _ (w h : ℕ) (t : Tables) (a b : ℕ) (ws vs : List (List ℕ)) (v : Ans
 
   -- the tests of the names, after those of the check
   abbrev tests : List (Bool × ℕ)
-  tests = nameTests (t .parent) a b ++ (adjoin w h (t .side1) a b, 9) ∷ []
-
-  tests-numbered : numbered 6 10 tests ≡ true
-  unfolding numbered nameTests
-  tests-numbered = refl
+  tests = pairTests w h (t .side1) (t .parent) a b
 
   -- the check refuses
   module _ (n : numberOf v ≢ 0) where
@@ -82,8 +53,8 @@ module _ (w h : ℕ) (t : Tables) (a b : ℕ) (ws vs : List (List ℕ)) (v : Ans
     unfolding asked
     refused-asked = rw (ne-eqb (numberOf v) 0 n) at e ∙ given-number w h t ws v vs c ∙ sym refused-number
 
-    refused-work : vs ≡ work-left (joinRefusal w h t a b ws) ws
-    refused-work = given-work w h t ws v vs c ∙ ap (λ k. work-left k ws) (sym refused-number)
+    refused-work : vs ≡ workLeft (joinRefusal w h t a b ws) ws
+    refused-work = given-work w h t ws v vs c ∙ ap (λ k. workLeft k ws) (sym refused-number)
 
   -- the check accepts
   module _ (z : numberOf v ≡ 0) where
@@ -95,15 +66,15 @@ module _ (w h : ℕ) (t : Tables) (a b : ℕ) (ws vs : List (List ℕ)) (v : Ans
     unfolding asked
     accepted-asked = rw (eq-eqb (numberOf v) 0 z) at e ∙ sym accepted-number
 
-    accepted-left : vs ≡ work-left (joinRefusal w h t a b ws) ws
+    accepted-left : vs ≡ workLeft (joinRefusal w h t a b ws) ws
     accepted-left =
         accepted-work w h t ws v vs c z
         ∙ sym
         (work-cleared (joinRefusal w h t a b ws) ws
-        (rw accepted-number (λ n. omega (arith, failed-from 6 10 tests tests-numbered n))))
+        (rw accepted-number (λ n. omega (arith, failed-from 6 10 tests (pair-numbered w h (t .side1) (t .parent) a b) n))))
 
   both-asked : (k : Bool) → eqb (numberOf v) 0 ≡ k
-      → (numberOf o ≡ joinRefusal w h t a b ws) × (vs ≡ work-left (joinRefusal w h t a b ws) ws)
+      → (numberOf o ≡ joinRefusal w h t a b ws) × (vs ≡ workLeft (joinRefusal w h t a b ws) ws)
   both-asked true p = let z = eqb-true (numberOf v) 0 p in (accepted-asked z, accepted-left z)
   both-asked false p = let n = eqb-false (numberOf v) 0 p in (refused-asked n, refused-work n)
 
@@ -135,22 +106,8 @@ module _ (w h : ℕ) (t : Tables) (a b : ℕ) (ws vs : List (List ℕ)) (v : Ans
     work : vs ≡ cleared ws
     work = accepted-work w h t ws v vs c check-done
 
-    passed : Passed tests
-    passed = all-passed 6 10 (lit< tt) tests tests-numbered (sym (accepted-number check-done) ∙ sym (accepted-asked check-done) ∙ z)
-
     joinable : Joinable w h t a b
-    unfolding nameTests
-    joinable =
-        let p = passed in
-        let (x, y) = or-neither (eqb a 0) (eqb b 0) (not-true (eqb a 0 || eqb b 0) (p .0)) in
-        let u : Bool = used (t .parent) a in
-        let q : Bool = used (t .parent) b in
-        record {
-          inner = (eqb-false a 0 x, eqb-false b 0 y);
-          apart = eqb-false a b (not-true (eqb a b) (p .1 .0));
-          regions = (and-left u q (p .1 .1 .0), and-right u q (p .1 .1 .0));
-          neighbours = p .1 .1 .1 .0;
-        }
+    joinable = passed-joinable w h t a b (sym (accepted-number check-done) ∙ sym (accepted-asked check-done) ∙ z)
 
     pub asked-ready : Ready w h t vs a b
     asked-ready =
@@ -163,7 +120,7 @@ module _ (w h : ℕ) (t : Tables) (a b : ℕ) (ws vs : List (List ℕ)) (v : Ans
     asked-joined c d e f x y s u p q =
         let m : works c d e f ≡ cleared ws = sym s ∙ work in
         let r : works c d e f ≡ cleared (works c d e f) = m ∙ sym (cleared-twice ws) ∙ ap cleared (sym m) in
-        let l : works x y e f ≡ cleared ws = rest-cleared c d e f x y r q ∙ ap cleared m ∙ cleared-twice ws in (
+        let l : works x y e f ≡ cleared ws = rest-cleared c d e f r x y q ∙ ap cleared m ∙ cleared-twice ws in (
           told-done Answer.Done (joinRefusal w h t a b ws) (sym z ∙ accepted-asked check-done) refl (seven t) (seven (joined w h t a b)) ws
               (seven u) (works x y e f) (ap seven p) l,
           λ y. joined-faithful w h t u a b size drawn joinable p,

@@ -1,2 +1,4 @@
 mod Afresh
 mod Answering
+mod ByList
+mod Cleared

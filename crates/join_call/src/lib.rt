@@ -1,2 +1,3 @@
-// Joining two regions of a drawing: the check, the names, then the removal rule.
+// Joining regions of a drawing, two or by a list: the check, the names, then the removal rule.
+pub mod list;
 pub mod regions;

@@ -77,7 +77,7 @@ apply-requires c κs =
     let n = c .before .before .before .before .before .before .before .before .before .before in
     let k = asked n in
     let z = sym (n .number .ensures) ∙ c .before .before .before .before .before .before .before .before .before .if1 .left in
-    ready-pair _ _ _ _ _ _ _ _ _ _ _ _ _ _ _ (asked-ready _ _ _ _ _ _ _ _ (checked k .check .ensures) _ (k .asked .ensures) z)
+    ready-pair _ _ _ _ _ _ _ _ _ (asked-ready _ _ _ _ _ _ _ _ (checked k .check .ensures) _ (k .asked .ensures) z)
 
 same-length-12 : tie.Need-same-length-12
 same-length-12 c = joined c .apply .kept .1 .1 .1 .1 .0

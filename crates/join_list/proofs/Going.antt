@@ -1,0 +1,148 @@
+-- Going through a list, entry by entry.
+--   Going w h l t b m u c n r i == after i entries of the list l, which led from the drawing t and the work tables b and m to the
+--                      drawing u and the work tables c and n, the names r are left
+use mathlib.Core.Path.{_≡_, refl, sym, _∙_}
+use mathlib.Core.Bool.{Bool, true, false, cond}
+use mathlib.Core.List.{List, [], _∷_}
+use mathlib.Core.Logic.{_≢_}
+use Prim.Native.Nat.{ℕ, zero, suc, _+_, _*_, _-_, _%_, _≤_, _<_}
+use native.Mathlib.Nat.{le-refl}
+use native.Mathlib.Omega.{arith}
+use lib.Dec.{eqb, leb}
+use lib.ListN.{length, getD, take, drop, length-drop}
+use lib.Seq.{take-all}
+use borrow.Author.Tests.{leb-true}
+use Rattle.laws.specs.First.{firstFailed}
+use Rattle.laws.proofs.Table.{length-table}
+use Rattle.laws.proofs.Test.{and-right}
+use Rattle.paper.specs.Level.{tops}
+use Rattle.paper.specs.Enclosure.{parent, parents}
+use Rattle.paper.specs.Drawing.{Tables}
+use Rattle.paper.specs.Joining.{at, on, joined}
+use Rattle.paper.specs.Refusal.{sized, stated, pairTests}
+use Rattle.paper.specs.Order.{pairs, whole, unless, joins}
+use Rattle.paper_laws.proofs.Marks.{within-fits}
+use Rattle.paper_laws.proofs.Order.{passed-joinable}
+use Rattle.paper_laws.proofs.Theorem.{joined-again}
+use Rattle.table_lengths.proofs.Tested.{stated-names, stated-slots}
+use Rattle.join_rule.specs.Apply.{pair, found, Topped}
+use Rattle.join_list.specs.Each.{Open, stop, Left}
+
+pub record Going (w h : ℕ) (l : List ℕ) (t : Tables) (b m : List ℕ) (u : Tables) (c n r : List ℕ) (i : ℕ) : Type 0 where
+  pub on : joins w h i (pairs r) u ≡ joins w h 0 (pairs l) t
+  pub lent : Open w h u (pair c n)
+  pub left : Left w h i t b m u c n
+  pub long : 2 * i + length r ≡ length l
+
+-- a list that may be lent has at most 7,919 entries
+pub whole-most : (w n : ℕ) → whole w n ≡ true → n ≤ 15838
+unfolding whole
+whole-most w n e = by (leb w 72) refl
+  where
+    long : n ≤ 2 * cond (leb w 72) 5183 7919
+    long = leb-true n (2 * cond (leb w 72) 5183 7919) (and-right (eqb (n % 2) 0) (leb n (2 * cond (leb w 72) 5183 7919)) e)
+
+    by : (k : Bool) → leb w 72 ≡ k → n ≤ 15838
+    by true q = let z = rw q at long in omega (arith, z)
+    by false q = let z = rw q at long in omega (arith, z)
+
+-- the next entry of a list, and the end
+pairs-next : (r : List ℕ) → 1 < length r → pairs r ≡ (getD r 0 0, getD r 1 0) ∷ pairs (drop 2 r)
+unfolding pairs
+pairs-next [] l = absurd (omega (arith, l))
+pairs-next (a ∷ []) l = absurd (omega (arith, l))
+pairs-next (a ∷ b ∷ r) l = refl
+
+rest-all : (r : List ℕ) → take (length r - 2) (drop 2 r) ≡ drop 2 r
+rest-all r = take-all (length r - 2) (drop 2 r) (rw length-drop (le-refl _))
+
+pub rest-less : (r : List ℕ) → 1 < length r → length (take (length r - 2) (drop 2 r)) < length r
+rest-less r l = rw rest-all (omega (arith, length-drop 2 r))
+
+pairs-end : (r : List ℕ) → length r ≤ 1 → pairs r ≡ []
+unfolding pairs
+pairs-end [] l = refl
+pairs-end (a ∷ []) l = refl
+pairs-end (a ∷ b ∷ r) l = absurd (omega (arith, l))
+
+module _ (w h : ℕ) (l : List ℕ) (t : Tables) (b m : List ℕ) where
+  pub going-start : Open w h t (pair b m) → Going w h l t b m t b m l 0
+  going-start o =
+      record {
+        on = refl;
+        lent = o;
+        left = record { none = λ z. (refl, refl, refl); some = λ n. absurd (n refl) };
+        long = omega arith;
+      }
+
+  module _ (u : Tables) (c n r : List ℕ) (i : ℕ) (g : Going w h l t b m u c n r i) where
+    -- past the last entry
+    pub going-end : length r ≤ 1 → stop 0 i u ≡ joins w h 0 (pairs l) t
+    unfolding joins
+    going-end e = rw (pairs-end r e) at (g .on)
+
+    module _ (e : 1 < length r) (k : ℕ) (f : k ≡ firstFailed (pairTests w h (u .side1) (u .parent) (getD r 0 0) (getD r 1 0))) where
+      next : unless k i u (joins w h (suc i) (pairs (drop 2 r)) (joined w h u (getD r 0 0) (getD r 1 0))) ≡ joins w h 0 (pairs l) t
+      unfolding joins
+      next = rw f (rw (pairs-next r e) at (g .on))
+
+      stops : k ≢ 0 → stop k i u ≡ joins w h 0 (pairs l) t
+      unfolding unless
+      stops = by k next
+        where
+          by : (k : ℕ)
+              → unless k i u (joins w h (suc i) (pairs (drop 2 r)) (joined w h u (getD r 0 0) (getD r 1 0))) ≡ joins w h 0 (pairs l) t
+              → k ≢ 0 → stop k i u ≡ joins w h 0 (pairs l) t
+          by zero q z = absurd (z refl)
+          by (suc k) q z = q
+
+      -- the entry is refused, and all stays as it is
+      pub going-stops : k ≢ 0 → (v : Tables) (d p : List ℕ) → (v ≡ u) × (d ≡ c) × (p ≡ n)
+          → (stop k i v ≡ joins w h 0 (pairs l) t) × Left w h i t b m v d p
+      going-stops z v d p (x, y, q) = (rw x (stops z), rw (x, y, q) (g .left))
+
+      -- it is joined
+      pub going-on : k ≡ 0 → (v : Tables) (d p : List ℕ) → v ≡ joined w h u (getD r 0 0) (getD r 1 0) → Topped w h (v .side1) d
+          → stated w h v (pair d p) ≡ true → Going w h l t b m v d p (take (length r - 2) (drop 2 r)) (i + 1)
+      unfolding unless
+      going-on z v d p q a s =
+          let o = g .lent in
+          let k : i + 1 ≡ suc i = omega arith in
+          let j = passed-joinable w h u (getD r 0 0) (getD r 1 0) (sym f ∙ z) in
+          record {
+            on = rw (q, k, rest-all) (rw z at next);
+            lent = record { size = o .size; sizes = s; drawn = rw q (joined-again w h (within-fits w h (o .size)) (o .drawn) j) };
+            left = record { none = λ y. absurd (omega (arith, y)); some = λ y. a };
+            long = rw rest-all (omega (arith, g .long, length-drop 2 r));
+          }
+
+-- Tables that keep their lengths keep the stated ones, and such tables have the same lengths.
+module _ (w h : ℕ) (x s y o c e b l x₁ s₁ y₁ o₁ c₁ e₁ b₁ l₁ : List ℕ)
+    (z : stated w h (found w h x s y o c e) (pair b l) ≡ true) where
+  pub found-stated : length x₁ ≡ length x → length s₁ ≡ length s → length y₁ ≡ length y → length o₁ ≡ length o
+      → length c₁ ≡ length c → length e₁ ≡ length e → length b₁ ≡ length b → length l₁ ≡ length l
+      → stated w h (found w h x₁ s₁ y₁ o₁ c₁ e₁) (pair b₁ l₁) ≡ true
+  unfolding stated sized parents
+  found-stated kx ks ky ko kc ke kb kl =
+      rw (length-table (w * h + 1) (parent w (on s₁) (at s₁) (tops w h (on s₁))), kx, ks, ky, ko, kc, ke, kb, kl)
+      (rw (length-table (w * h + 1) (parent w (on s) (at s) (tops w h (on s)))) at z)
+
+  pub stated-same : stated w h (found w h x₁ s₁ y₁ o₁ c₁ e₁) (pair b₁ l₁) ≡ true
+      → (length x₁ ≡ length x) × (length s₁ ≡ length s) × (length y₁ ≡ length y) × (length o₁ ≡ length o)
+      × (length c₁ ≡ length c) × (length e₁ ≡ length e) × (length b₁ ≡ length b) × (length l₁ ≡ length l)
+  stated-same z₁ =
+      let p = stated-slots w h (found w h x s y o c e) (pair b l) z in
+      let q = stated-slots w h (found w h x₁ s₁ y₁ o₁ c₁ e₁) (pair b₁ l₁) z₁ in
+      let m = stated-names w h (found w h x s y o c e) (pair b l) z in
+      let n = stated-names w h (found w h x₁ s₁ y₁ o₁ c₁ e₁) (pair b₁ l₁) z₁ in
+      let p₄ = p .1 .1 .1 .1 in
+      let q₄ = q .1 .1 .1 .1 in (
+        q .0 ∙ sym (p .0),
+        q .1 .0 ∙ sym (p .1 .0),
+        q .1 .1 .0 ∙ sym (p .1 .1 .0),
+        q .1 .1 .1 .0 ∙ sym (p .1 .1 .1 .0),
+        n .1 .0 ∙ sym (m .1 .0),
+        n .1 .1 .0 ∙ sym (m .1 .1 .0),
+        q₄ .0 ∙ sym (p₄ .0),
+        q₄ .1 .0 ∙ sym (p₄ .1 .0),
+      )

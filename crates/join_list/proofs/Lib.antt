@@ -1,0 +1,4 @@
+pub mod Ending
+mod Going
+pub mod Outcome
+mod Pairing
