@@ -16,7 +16,8 @@
  *
  * Every function
  * - answers a number: 0 for done, else that of the first refusal that applies, in the order of its comment;
- * - leaves all that it would write when done as it was where it refuses;
+ * - leaves all that it would write when done as it was where it refuses; but a list of joins that is refused at an entry
+ *   keeps the joins before it. A place or a card is written by a refusal alone;
  * - is lent each table as a pointer and a length in entries, each single number as a pointer. No pointer is null; what
  *   is written overlaps nothing else that is lent to the same call;
  * - keeps nothing and allocates nothing: the caller owns every table.
@@ -34,6 +35,7 @@
  *    7  the two names are equal
  *    8  no region has that name
  *    9  the two share no line
+ *   12  a list of names is of odd length, or of more pairs than RAIMENOLTA_PAIRS: 5,183, or 7,919 where W is above 72
  *   20  a card begun is not 80 bytes and a line feed
  *   21  columns 1 to 72 of the header not as laid out, or its W or H out of the limits of its form
  *   22  columns 73 to 80 wrong
@@ -61,6 +63,10 @@
 /* The greatest width and the greatest height. */
 #define RAIMENOLTA_WIDEST 110
 #define RAIMENOLTA_TALLEST 72
+
+/* The most pairs that a list of joins may have: one less than the cells of the largest sheet, or of the largest that is not
+ * wider than 72. */
+#define RAIMENOLTA_PAIRS(width) ((size_t)((width) <= 72 ? 5183 : 7919))
 
 /* The length of a sheet's deck: a header, and a card a row, or two where the row is wider than 72. */
 #define RAIMENOLTA_DECK(width, height) (81 * (1 + (size_t)(height) * ((width) <= 72 ? 1 : 2)))
@@ -140,6 +146,30 @@ uint16_t raimenolta_join(
     uint16_t *cells, size_t cells_length,
     uint16_t *borders, size_t borders_length,
     uint16_t a, uint16_t b,
+    uint16_t *work_a, size_t work_a_length,
+    uint16_t *work_b, size_t work_b_length,
+    uint16_t *work_c, size_t work_c_length,
+    uint16_t *work_d, size_t work_d_length);
+
+/*
+ * Joins regions two by two, in the order of a list: reads and writes the seven tables (RAIMENOLTA_SLOTS each; parent, cells
+ * and borders RAIMENOLTA_NAMES each), reads names (of any length, 0 too). Entry k, from 0, is the pair names[2 * k] and
+ * names[2 * k + 1]. The drawing is checked once, before the first entry; each entry is then joined as by raimenolta_join, in
+ * the drawing that those before it have left. The first entry that is refused ends the list: the joins before it stay, and
+ * no later one is looked at. Refusals 1, 4, 12, 5, then of an entry 6, 7, 8, 9. A refusal writes the one number at place: that
+ * of the entry, or 0 for 1, 4, 12 and 5, which leave the seven tables as they were. When it is done it leaves place as it was.
+ * Two lists that are done in the same drawing and end in the same grouping of cells leave the same tables.
+ */
+uint16_t raimenolta_join_list(
+    uint16_t width, uint16_t height,
+    uint16_t *next1, size_t next1_length,
+    uint16_t *side1, size_t side1_length,
+    uint16_t *next3, size_t next3_length,
+    uint16_t *other3, size_t other3_length,
+    uint16_t *parent, size_t parent_length,
+    uint16_t *cells, size_t cells_length,
+    uint16_t *borders, size_t borders_length,
+    const uint16_t *names, size_t names_length, uint16_t *place,
     uint16_t *work_a, size_t work_a_length,
     uint16_t *work_b, size_t work_b_length,
     uint16_t *work_c, size_t work_c_length,

@@ -2,6 +2,7 @@
 --   doneHeld o l    == what a slot that held l holds after the outcome o: its values where it is done
 --   refusedHeld o l == what a slot that held l holds after the outcome o: its values where it is refused
 --   slotted o l     == the outcome o with its values in a slot that held l, after the other tables
+--   placeSlotted o l == the outcome o with the place of its refusal in a slot that held l, after the other tables
 --   slottedTwice o s k == the outcome o with its values in two slots: when done in the one that held s, refused in the one
 --                      that held k
 --   carded o        == the outcome o of reading or writing a deck, as one with one table and no work tables
@@ -20,6 +21,9 @@ refusedHeld o l = cond (eqb (o .number) 0) l (o .values)
 
 unfoldable pub slotted : Outcome → List ℕ → Outcome
 slotted o l = ended (o .number) [] (o .tables ++ doneHeld o l ∷ []) (o .work)
+
+unfoldable pub placeSlotted : Outcome → List ℕ → Outcome
+placeSlotted o l = ended (o .number) [] (o .tables ++ refusedHeld o l ∷ []) (o .work)
 
 unfoldable pub slottedTwice : Outcome → List ℕ → List ℕ → Outcome
 slottedTwice o s k = ended (o .number) [] (o .tables ++ doneHeld o s ∷ refusedHeld o k ∷ []) (o .work)

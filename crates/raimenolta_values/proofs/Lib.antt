@@ -1,2 +1,3 @@
+mod Place
 mod Refused
 mod Size
