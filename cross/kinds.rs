@@ -84,8 +84,8 @@ pub fn kinds() -> Vec<Kind> {
     let middling = |_: usize, random: &mut Random| sized(random, 20, 20);
     let little = |_: usize, random: &mut Random| sized(random, 9, 9);
     vec![
-        // every level, count and join of every sheet up to 3 by 3 with up to 3 labels
-        Kind { name: "small", seconds: 5, cases: sheets::all_small().len(), sheet: small, compare: everything },
+        // every level, count and join of every sheet up to 3 by 3 with up to 3 labels, and lists of joins
+        Kind { name: "small", seconds: 7, cases: sheets::all_small().len(), sheet: small, compare: everything },
         // the levels of a sheet of any size
         Kind { name: "levels", seconds: 6, cases: 4000, sheet: any, compare: levels },
         // drawing a sheet of any size, checking the drawing, and counting in it, turns too
@@ -96,12 +96,16 @@ pub fn kinds() -> Vec<Kind> {
         Kind { name: "large joins", seconds: 5, cases: 9, sheet: large, compare: joins },
         // such joins in a sheet of many regions, so hundreds of joins one after another
         Kind { name: "long joins", seconds: 9, cases: 3, sheet: crowded, compare: joins },
+        // lists of joins in a sheet up to 20 by 20 or of few rows: in two orders, refused at any entry, of any length
+        Kind { name: "lists", seconds: 4, cases: 1500, sheet: compact, compare: lists },
+        // such lists in a sheet of 72 by 72 or of 110 by 72, also of as many joins as there can be
+        Kind { name: "large lists", seconds: 2, cases: 4, sheet: extensive, compare: lists },
         // joins and counts of names that are 0, equal, unused, too large or far apart
         Kind { name: "names", seconds: 6, cases: 4000, sheet: middling, compare: names },
         // tables that are most often no drawing, of a sheet up to 20 by 20
-        Kind { name: "damage", seconds: 7, cases: 14000, sheet: middling, compare: damage },
+        Kind { name: "damage", seconds: 8, cases: 14000, sheet: middling, compare: damage },
         // such tables of a sheet of any size
-        Kind { name: "large damage", seconds: 10, cases: 2600, sheet: any, compare: damage },
+        Kind { name: "large damage", seconds: 11, cases: 2600, sheet: any, compare: damage },
         // lengths and sizes that are not the stated ones, for a sheet up to 9 by 9
         Kind { name: "lengths", seconds: 4, cases: 800, sheet: little, compare: lengths },
         // such lengths and sizes for a sheet of any size
@@ -144,6 +148,24 @@ fn crowded(index: usize, random: &mut Random) -> Sheet {
 
 fn large(index: usize, random: &mut Random) -> Sheet {
     sheets::painted_over(random, Size { width: [72, WIDEST as usize][index % 2], height: TALLEST as usize })
+}
+
+/// Two of four are such sheets, and two of their sizes with a region in each cell.
+fn extensive(index: usize, random: &mut Random) -> Sheet {
+    let sheet = large(index + index / 2, random);
+    match index / 2 % 2 {
+        0 => sheets::all_different(random, sheet.size),
+        _ => sheet,
+    }
+}
+
+/// A sheet up to 20 by 20; one of four is of few rows, and about as wide as those whose lists may be longer.
+fn compact(index: usize, random: &mut Random) -> Sheet {
+    if index % 4 != 2 {
+        return sized(random, 20, 20);
+    }
+    let size = Size { width: random.one_of(&[71, 72, 73, 74, 110]), height: 1 + random.below(3) };
+    sheets::sheet(random, size)
 }
 
 // ---------------------------------------------------------------------------------------------------------------------
@@ -198,6 +220,11 @@ fn check(random: &mut Random, size: Size, seven: &Seven) -> Request {
 
 fn join(random: &mut Random, size: Size, seven: &Seven, a: u16, b: u16) -> Request {
     words(Call::Join, sized_numbers(size, &[a, b]), with_works(random, size, list(seven.clone())))
+}
+
+fn join_list(random: &mut Random, size: Size, seven: &Seven, names: &[u16]) -> Request {
+    let tables = [list(seven.clone()), vec![names.to_vec(), vec![random.word()]]].concat();
+    words(Call::JoinList, sized_numbers(size, &[]), with_works(random, size, tables))
 }
 
 /// A call for the depth or the holes of one name.
@@ -331,7 +358,8 @@ fn everything(both: &mut Both, sheet: &Sheet, random: &mut Random) -> Same {
         let b = random.one_of(&used);
         both.same(join(random, size, &seven, *a, b))?;
     }
-    joins(both, sheet, random)
+    joins(both, sheet, random)?;
+    lists(both, sheet, random)
 }
 
 /// A name, often none of a region.
@@ -356,6 +384,150 @@ fn names(both: &mut Both, sheet: &Sheet, random: &mut Random) -> Same {
         both.same(join(random, size, &seven, a, b))?;
         both.same(count(random, Call::Depth, size, &seven, a))?;
         both.same(count(random, Call::Holes, size, &seven, b))?;
+    }
+    Ok(())
+}
+
+// ---------------------------------------------------------------------------------------------------------------------
+// Lists of joins. The names of the cells say where a list has come to; they are a grouping.
+
+/// The lines between cells, each by the two cells beside it, row by row or shuffled.
+fn lines_between(random: &mut Random, size: Size) -> Vec<(usize, usize)> {
+    let mut lines = Vec::new();
+    for cell in 0..size.cells() {
+        if cell % size.width != 0 {
+            lines.push((cell - 1, cell));
+        }
+        if cell >= size.width {
+            lines.push((cell - size.width, cell));
+        }
+    }
+    if !random.once_in(6) {
+        for k in 1..lines.len() {
+            lines.swap(k, random.below(k + 1));
+        }
+    }
+    lines
+}
+
+/// A list that is accepted throughout: of each line in turn the two regions beside it, where they are still two. The names are
+/// brought to where it ends.
+fn accepted(random: &mut Random, names: &mut [u16], lines: &[(usize, usize)]) -> Vec<u16> {
+    let mut list = Vec::new();
+    for &(one, two) in lines {
+        let (a, b) = (names[one], names[two]);
+        if a != b {
+            list.extend(if random.once_in(2) { [a, b] } else { [b, a] });
+            naive::regroup(names, a, b);
+        }
+    }
+    list
+}
+
+/// A pair that is most often refused where the cells bear these names and a join has taken the name `gone`.
+fn some_pair(random: &mut Random, names: &[u16], gone: u16) -> [u16; 2] {
+    let (a, b) = (random.one_of(names), random.one_of(names));
+    let past = names.len() as u16 + 1 + random.below(3) as u16;
+    let [one, two] = match random.below(12) {
+        0 => [0, a],
+        1 => [0, random.one_of(&[0, past, gone, MARK])],
+        2 => [a, a],
+        3 => [random.one_of(&[past, gone, MARK]); 2],
+        4 => [a, 1 + random.below(names.len()) as u16],
+        5 => [a, past],
+        6 => [a, random.one_of(&[MARK, MARK - 1, 32768, a.wrapping_add(256)])],
+        7 => [a, gone],
+        8 => [random.word(), random.word()],
+        _ => [a, b],
+    };
+    if random.once_in(2) {
+        [one, two]
+    } else {
+        [two, one]
+    }
+}
+
+/// The list with a pair put in before some entry, or after the last, that is most often refused there.
+fn with_a_refusal(random: &mut Random, names: &[u16], list: &[u16]) -> Vec<u16> {
+    let mut names = names.to_vec();
+    let mut gone = 0;
+    let (before, after) = list.split_at(2 * random.below(list.len() / 2 + 1));
+    for pair in before.chunks(2) {
+        naive::regroup(&mut names, pair[0], pair[1]);
+        gone = pair[0].max(pair[1]);
+    }
+    [before, &some_pair(random, &names, gone), after].concat()
+}
+
+/// The list cut, or filled up from its start: to an odd length, to the greatest or near it, or to any.
+fn of_some_length(random: &mut Random, size: Size, list: &[u16]) -> Vec<u16> {
+    let most = 2 * size.most_pairs();
+    let length = match random.below(4) {
+        0 => random.one_of(&[list.len() + 1, list.len().max(2) - 1]),
+        1 => most,
+        2 => random.one_of(&[most + 1, most + 2, most - 1]),
+        _ => random.one_of(&[1, 2, 10366, 10368, 15838, 15840, 65535, 65536, 65538, 65536 + list.len(), 131072]),
+    };
+    let of = if list.is_empty() { &[1, 2] } else { list };
+    of.iter().copied().cycle().take(length).collect()
+}
+
+/// Lists that are to be done, one call after another, leave the fresh drawing of the grouping that they end in.
+fn end_in(both: &mut Both, size: Size, seven: &Seven, lists: &[&[u16]], grouping: &[u16], random: &mut Random) -> Same {
+    let differs = |request, what: &str| Err(Difference { request, what: what.into() });
+    let mut after = seven.clone();
+    for list in lists {
+        let request = join_list(random, size, &after, list);
+        let answer = both.same(request.clone())?;
+        if answer.number != 0 {
+            return differs(request, "joins of regions that share a line are refused");
+        }
+        after = drawn(&answer.tables);
+    }
+    if after != naive::draw(size, grouping) {
+        let request = join_list(random, size, seven, &lists.concat());
+        return differs(request, "the joins end in other tables than the fresh drawing");
+    }
+    Ok(())
+}
+
+/// Two lists that end in one grouping, the second of them in two calls, and the first gone on with until one region is left. The
+/// second is done by the naive removal rule too, join by join, on a small sheet. Then lists that are refused, or of some other
+/// length.
+fn lists(both: &mut Both, sheet: &Sheet, random: &mut Random) -> Same {
+    let size = sheet.size;
+    let names = naive::names(size, &sheet.labels);
+    let seven = naive::draw(size, &sheet.labels);
+    let mut grouping = names.clone();
+    let mut lines = lines_between(random, size);
+    lines.truncate(random.below(lines.len() + 1));
+    let first = accepted(random, &mut grouping, &lines);
+    let mut lines = lines_between(random, size);
+    lines.retain(|&(one, two)| grouping[one] == grouping[two]);
+    let second = accepted(random, &mut names.clone(), &lines);
+    let lines = lines_between(random, size);
+    let whole = [&first[..], &accepted(random, &mut grouping.clone(), &lines)].concat();
+
+    let (start, end) = second.split_at(2 * random.below(second.len() / 2 + 1));
+    end_in(both, size, &seven, &[&first], &grouping, random)?;
+    end_in(both, size, &seven, &[start, end], &grouping, random)?;
+    end_in(both, size, &seven, &[&whole], &vec![1; size.cells()], random)?;
+    if size.cells() <= 100 {
+        let join = |seven: Seven, pair: &[u16]| naive::joined_by_removal(size, &seven, pair[0], pair[1]);
+        if second.chunks(2).fold(seven.clone(), join) != naive::draw(size, &grouping) {
+            let request = join_list(random, size, &seven, &second);
+            return Err(Difference { request, what: "the naive removal rule and the fresh drawing differ".into() });
+        }
+    }
+
+    both.same(join_list(random, size, &seven, &[]))?;
+    for list in [&second, &whole] {
+        let once = with_a_refusal(random, &names, list);
+        let twice = with_a_refusal(random, &names, &once);
+        let long = of_some_length(random, size, list);
+        for list in [once, twice, long] {
+            both.same(join_list(random, size, &seven, &list))?;
+        }
     }
     Ok(())
 }
@@ -528,6 +700,8 @@ fn damage(both: &mut Both, sheet: &Sheet, random: &mut Random) -> Same {
     let pairs = neighbours(size, &naive::draw(size, &sheet.labels));
     let (a, b) = if pairs.is_empty() || random.once_in(3) { (random.word(), 0) } else { random.one_of(&pairs) };
     both.same(join(random, size, &seven, a, b))?;
+    let list = if random.once_in(2) { vec![a, b] } else { of_some_length(random, size, &[a, b, 0, a]) };
+    both.same(join_list(random, size, &seven, &list))?;
     both.same(count(random, Call::Depth, size, &seven, a))?;
     both.same(count(random, Call::Holes, size, &seven, b))?;
     both.same(counts(random, size, &seven))?;
@@ -552,6 +726,7 @@ fn wrong_length(random: &mut Random, length: usize) -> usize {
 /// Whether a table is a slot of a fixed length, which a caller cannot get wrong.
 fn is_slot(call: Call, name: &str) -> bool {
     match call {
+        Call::JoinList => name == "place",
         Call::Depth => name == "depth",
         Call::Holes => name == "holes",
         Call::Read => name != "cells",
@@ -625,6 +800,7 @@ fn lengths(both: &mut Both, sheet: &Sheet, random: &mut Random) -> Same {
         draw(random, sheet),
         check(random, size, &seven),
         join(random, size, &seven, a, b),
+        join_list(random, size, &seven, &[a, b, name, a]),
         count(random, Call::Depth, size, &seven, name),
         count(random, Call::Holes, size, &seven, name),
         counts(random, size, &seven),

@@ -68,6 +68,15 @@ impl Size {
         self.cells() + 1
     }
 
+    /// The most pairs that a list of joins may have; a sheet wider than a card has another limit.
+    pub fn most_pairs(self) -> usize {
+        if self.width <= COLUMNS {
+            5183
+        } else {
+            7919
+        }
+    }
+
     /// The length of the deck: a header, and for each row a card, or two where it is wider than a card.
     pub fn deck(self) -> usize {
         CARD * (1 + self.height * if self.width <= COLUMNS { 1 } else { 2 })
@@ -465,16 +474,20 @@ fn between(sides: (u16, u16), a: u16, b: u16) -> bool {
     sides == (a, b) || sides == (b, a)
 }
 
-pub fn share_a_line(size: Size, seven: &Seven, a: u16, b: u16) -> bool {
-    (0..size.slots())
-        .filter(|&dart| seven.side1[dart] != MARK)
-        .any(|dart| between((seven.side1[dart], seven.side1[size.reversal(dart)]), a, b))
+/// Whether a cell of one region lies beside a cell of the other.
+fn share_a_line(size: Size, names: &[u16], a: u16, b: u16) -> bool {
+    let sides = |cell: usize, beside: usize| between((names[cell], names[beside]), a, b);
+    (0..size.cells()).any(|cell| {
+        (cell % size.width != 0 && sides(cell, cell - 1)) || (cell >= size.width && sides(cell, cell - size.width))
+    })
 }
 
-/// Joined by drawing afresh: from the sheet whose cells bear their region names, both bearing the smaller.
-pub fn joined_afresh(size: Size, names: &[u16], a: u16, b: u16) -> Seven {
-    let bear = |name: u16| if name == a || name == b { a.min(b) } else { name };
-    draw(size, &names.iter().map(|&name| bear(name)).collect::<Vec<_>>())
+/// Two regions become one: the cells of both bear the smaller name.
+pub fn regroup(names: &mut [u16], a: u16, b: u16) {
+    let (smaller, larger) = (a.min(b), a.max(b));
+    for name in names {
+        *name = if *name == larger { smaller } else { *name };
+    }
 }
 
 /// Takes darts away. A remaining dart's next is the first remaining among its old next, then the old next of the
@@ -716,25 +729,76 @@ pub fn check_call(width: u16, height: u16, seven: &Seven, works: &mut Works) -> 
     checked(width, height, seven, |_| true, works).err().unwrap_or(0)
 }
 
-pub fn join_call(width: u16, height: u16, seven: &mut Seven, a: u16, b: u16, works: &mut Works) -> u16 {
-    let (size, names) = match checked(width, height, seven, |_| true, works) {
-        Ok(checked) => checked,
-        Err(number) => return number,
-    };
+/// What joining refuses of two names where the cells bear these names, 0 for nothing.
+fn join_refusal(size: Size, names: &[u16], a: u16, b: u16) -> u16 {
     if a == 0 || b == 0 {
         return 6;
     }
     if a == b {
         return 7;
     }
-    if !is_named(&names, a) || !is_named(&names, b) {
+    if !is_named(names, a) || !is_named(names, b) {
         return 8;
     }
-    if !share_a_line(size, seven, a, b) {
+    if !share_a_line(size, names, a, b) {
         return 9;
     }
-    *seven = joined_afresh(size, &names, a, b);
     0
+}
+
+/// Joined by drawing afresh: from the sheet whose cells bear their region names, both bearing the smaller.
+pub fn join_call(width: u16, height: u16, seven: &mut Seven, a: u16, b: u16, works: &mut Works) -> u16 {
+    let (size, mut names) = match checked(width, height, seven, |_| true, works) {
+        Ok(checked) => checked,
+        Err(number) => return number,
+    };
+    let number = join_refusal(size, &names, a, b);
+    if number == 0 {
+        regroup(&mut names, a, b);
+        *seven = draw(size, &names);
+    }
+    number
+}
+
+/// Joins names two by two, pair after pair, up to the first that is refused; the joins before it stay. What they leave is the
+/// fresh drawing of the names that the cells have then. A refusal writes its place, from 0: that of the pair, or 0 where the list
+/// as a whole is refused.
+pub fn join_list_call(
+    width: u16,
+    height: u16,
+    seven: &mut Seven,
+    list: &[u16],
+    place: &mut u16,
+    works: &mut Works,
+) -> u16 {
+    let (number, at) = join_list(width, height, seven, list, works);
+    if number != 0 {
+        *place = at as u16;
+    }
+    number
+}
+
+fn join_list(width: u16, height: u16, seven: &mut Seven, list: &[u16], works: &mut Works) -> (u16, usize) {
+    let Some(size) = Size::new(width, height) else { return (1, 0) };
+    if !seven.fits(size) || !works_fit(size, works) {
+        return (4, 0);
+    }
+    clear(works);
+    if list.len() % 2 != 0 || list.len() / 2 > size.most_pairs() {
+        return (12, 0);
+    }
+    let Some(mut names) = recovered(size, seven) else { return (5, 0) };
+    let mut refusal = (0, 0);
+    for (place, pair) in list.chunks(2).enumerate() {
+        let number = join_refusal(size, &names, pair[0], pair[1]);
+        if number != 0 {
+            refusal = (number, place);
+            break;
+        }
+        regroup(&mut names, pair[0], pair[1]);
+    }
+    *seven = draw(size, &names);
+    refusal
 }
 
 /// One of the two counts of a region or of the outside, into a slot.

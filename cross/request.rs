@@ -15,6 +15,7 @@ pub enum Call {
     Draw,
     Check,
     Join,
+    JoinList,
     Depth,
     Holes,
     Counts,
@@ -52,6 +53,7 @@ impl Call {
             Call::Level => [&["sheet", "next", "other", "side"][..], &WORKS].concat(),
             Call::Draw => [&["sheet"][..], &SEVEN, &WORKS].concat(),
             Call::Check | Call::Join => [&SEVEN[..], &WORKS].concat(),
+            Call::JoinList => [&SEVEN[..], &["names", "place"], &WORKS].concat(),
             Call::Depth => [&SEVEN[..], &["depth"], &WORKS].concat(),
             Call::Holes => [&SEVEN[..], &["holes"], &WORKS].concat(),
             Call::Counts => [&SEVEN[..], &["depths", "holes"], &WORKS].concat(),
@@ -96,6 +98,13 @@ impl Request {
                 let mut works = [table(), table(), table(), table()];
                 let answer = naive::join_call(number(0), number(1), &mut seven, number(2), number(3), &mut works);
                 (answer, lay(list(seven), works))
+            }
+            Call::JoinList => {
+                let mut seven = seven(&mut table);
+                let (names, mut place) = (table(), table());
+                let mut works = [table(), table(), table(), table()];
+                let answer = naive::join_list_call(number(0), number(1), &mut seven, &names, &mut place[0], &mut works);
+                (answer, lay([list(seven), vec![names, place]].concat(), works))
             }
             Call::Depth | Call::Holes => {
                 let seven = seven(&mut table);

@@ -19,7 +19,7 @@ typedef uint32_t u32;
 enum { ROOM = 1 << 22, GUARD = 64, GUARD_BYTE = 0xA5, MOST_TABLES = 13, MOST_NUMBERS = 4 };
 
 /* A request's call, in the order of request.rs. */
-enum { LEVEL, DRAW, CHECK, JOIN, DEPTH, HOLES, COUNTS, TURNS, READ, WRITE, PART_REFUSAL };
+enum { LEVEL, DRAW, CHECK, JOIN, JOIN_LIST, DEPTH, HOLES, COUNTS, TURNS, READ, WRITE, PART_REFUSAL };
 
 static u8 request[ROOM];
 static u32 request_length, request_at;
@@ -129,6 +129,9 @@ static u16 call(u32 which, u32 given) {
     case JOIN:
         need(given == 4 && tables == 11);
         return raimenolta_join(n[0], n[1], SEVEN(0), n[2], n[3], WORKS(7));
+    case JOIN_LIST:
+        need(given == 2 && tables == 13 && length[8] == 1);
+        return raimenolta_join_list(n[0], n[1], SEVEN(0), TABLE(7), table[8], WORKS(9));
     case DEPTH:
         need(given == 3 && tables == 12 && length[7] == 1);
         return raimenolta_depth(n[0], n[1], SEVEN(0), n[2], table[7], WORKS(8));

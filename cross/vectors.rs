@@ -23,6 +23,8 @@
 //!   t05_turns.txt        W H; labels; joins as in t01_joins.txt; dart other right left of each level 3 edge, by its smaller dart
 //!   t07_point_table.txt  present taken; entry
 //!   t07_joins.txt        W H; labels; a b; present taken entry of each point; seven tables after the join
+//!   t10_lists.txt        W H; labels; names two by two, - for none; 0, or number place; seven tables after
+//!   t10_order.txt        W H; seven tables; names two by two; 0, or number place
 
 use crate::naive::{self, Level, Seven, Size, Turn, Works, MARK};
 use crate::request::{drawn, list};
@@ -204,6 +206,39 @@ fn join_refusal(fields: &[Vec<u16>]) -> bool {
     naive::join_call(fields[0][0], fields[0][1], &mut drawing, a, b, &mut works(size)) == fields[3][0]
 }
 
+/// What a list of joins answers, with its place where it is refused, and the tables after it. None where it does not clear the
+/// work tables, or writes a place when it is done.
+fn after_list(fields: &[Vec<u16>], drawing: &Seven, list: &[u16]) -> Option<(Vec<u16>, Seven)> {
+    let mut after = drawing.clone();
+    let mut place = 7;
+    let mut works = works(size(&fields[0]));
+    let number = naive::join_list_call(fields[0][0], fields[0][1], &mut after, list, &mut place, &mut works);
+    let answer = if number == 0 { vec![0] } else { vec![number, place] };
+    (clear(&works) && (number != 0 || place == 7)).then_some((answer, after))
+}
+
+/// A list of joins, and the same joins one after another by the removal rule.
+fn join_list(fields: &[Vec<u16>]) -> bool {
+    let size = size(&fields[0]);
+    let drawing = naive::draw(size, &fields[1]);
+    let done = match fields[3][..] {
+        [0] => fields[2].len() / 2,
+        [_, place] => place as usize,
+        _ => return false,
+    };
+    let pairs = fields[2].chunks(2).take(done);
+    let removed = pairs.fold(drawing.clone(), |seven, pair| naive::joined_by_removal(size, &seven, pair[0], pair[1]));
+    let expected = drawn(&fields[4..11]);
+    removed == expected && after_list(fields, &drawing, &fields[2]) == Some((fields[3].clone(), expected))
+}
+
+/// What a list of joins answers. One that is refused at its first entry or as a whole leaves the tables.
+fn list_in_order(fields: &[Vec<u16>]) -> bool {
+    let drawing = drawn(&fields[1..8]);
+    let Some((answer, after)) = after_list(fields, &drawing, &fields[8]) else { return false };
+    answer == fields[9] && (answer.get(1) != Some(&0) || after == drawing)
+}
+
 fn not_drawing(fields: &[Vec<u16>]) -> bool {
     let mut works = works(size(&fields[0]));
     naive::check_call(fields[0][0], fields[0][1], &drawn(&fields[1..8]), &mut works) == fields[8][0] && clear(&works)
@@ -313,6 +348,8 @@ pub fn run(folder: &Path) -> bool {
         file(folder, "requests/t05_turns.txt", fields(turns)),
         file(folder, "requests/t07_point_table.txt", fields(point_table)),
         file(folder, "requests/t07_joins.txt", fields(join_by_points)),
+        file(folder, "requests/t10_lists.txt", fields(join_list)),
+        file(folder, "requests/t10_order.txt", fields(list_in_order)),
     ];
     results.iter().all(|&agreed| agreed)
 }
