@@ -2,7 +2,7 @@
  *
  * A batch of sheets is drawn, then checked, its turns counted, then joined, each by one side and then by the other, on buffers
  * that are warm, in several rounds. Of each sheet, place and job the least of the rounds counts, and the times of all sheets are
- * added.
+ * added. Lists of joins are done on fewer sheets, by both sides, and by the library join by join too.
  * Random sheets are so many that the machine cannot learn which way the branches go, neither from one round to the next
  * nor from a sheet's drawing to its check. The answers of both sides are compared. Prints tables in Markdown. */
 
@@ -35,6 +35,12 @@ enum { MARK = 65535, MONOTONIC = 1, ERRORS = 2 };
 #define plain_turns(width, height, tables, right, left) 0
 #endif
 
+/* One from before lists of joins does none; their table is then left out. */
+#ifndef PLAIN_LISTS
+#define PLAIN_LISTS 0
+#define plain_join_list(width, height, tables, list, pairs, place) 0
+#endif
+
 /* One from before the totals draws five tables; only these are then compared. */
 #ifdef PLAIN_TOTALS
 #define RIVALS(seven) seven
@@ -61,6 +67,11 @@ enum { SQUARE = 72 * 72, CELLS = 4 * SQUARE, BATCHES = 10, ROUNDS = 8, PLACES = 
 
 /* The most sheets of a batch, and its most slots and names: those of the smallest sheets. */
 enum { MOST = CELLS / (LEAST * LEAST), SLOTS = 4 * (LEAST + 1) * (LEAST + 1) * MOST, NAMES = (LEAST * LEAST + 1) * MOST };
+
+/* Lists are of so many joins each, or of as many as there can be, on the sheets of so many batches of 72 by 72; the longest only on
+ * so many of these sheets. */
+enum { LISTS = 3, LONGEST = 300, LIST_BATCHES = 2, LISTED = LIST_BATCHES * CELLS / SQUARE, LONG_LISTED = 2 };
+static const int joins[LISTS] = {1, 10, LONGEST};
 
 /* Room for the seven tables of each sheet of a batch and its two tables of turns, the tables of one side. */
 struct room {
@@ -89,14 +100,15 @@ static void need(int holds, const char *what) {
     exit(1);
 }
 
-/* The sheet at hand, its tables of both sides, and two regions of it. */
+/* The sheet at hand, its tables of both sides, two regions of it, and a list of such, of so many pairs. */
 struct hand {
     const u16 *sheet;
     struct seven our, plain;
     struct turns {
         u16 *right, *left;
     } our_turns, plain_turns;
-    int a, b;
+    int a, b, pairs;
+    const u16 *list;
 };
 
 static struct seven tables(struct room *room, int n) {
@@ -111,7 +123,7 @@ static struct turns turns(struct room *room, int n) {
 
 static struct hand take(int n) {
     return (struct hand){batch + n * cells,   tables(&our_room, n),  tables(&plain_room, n),
-                         turns(&our_room, n), turns(&plain_room, n), 0, 0};
+                         turns(&our_room, n), turns(&plain_room, n), 0, 0, 0, 0};
 }
 
 static int same(struct seven a, struct seven b) {
@@ -149,6 +161,12 @@ static void our_join(struct hand h) {
     need(!raimenolta_join((u16)width, (u16)height, SEVEN(h.our), (u16)h.a, (u16)h.b, WORKS), "the library refuses a join");
 }
 
+static void our_list(struct hand h) {
+    u16 place;
+    need(!raimenolta_join_list((u16)width, (u16)height, SEVEN(h.our), h.list, 2 * (size_t)h.pairs, &place, WORKS),
+         "the library refuses a list of joins");
+}
+
 static void its_draw(struct hand h) { plain_draw(width, height, h.sheet, RIVALS(h.plain)); }
 
 static void its_check(struct hand h) { need(plain_check(width, height, RIVALS(h.plain)), "plain C refuses a drawing"); }
@@ -158,6 +176,12 @@ static void its_turns(struct hand h) {
 }
 
 static void its_join(struct hand h) { need(!plain_join(width, height, RIVALS(h.plain), h.a, h.b), "plain C refuses a join"); }
+
+static void its_list(struct hand h) {
+    int place = 0;
+    need(!plain_join_list(width, height, RIVALS(h.plain), h.list, h.pairs, &place) && !place,
+         "plain C refuses a list of joins");
+}
 
 /* The times of one side for the cells of 72 by 72, in microseconds. */
 struct times {
@@ -230,6 +254,15 @@ static void run(struct least *our, struct least *plain, int place) {
     for (int n = 0; n < count; n++) need(same(h[n].our, h[n].plain), "the two joins differ");
 }
 
+/* The longest list of a sheet, how many pairs of it each list has, and the least that these took; and that its joins took, each as a
+ * call of its own, and a check just before it, but for the first. */
+struct listed {
+    u16 list[2 * LONGEST];
+    int pairs[LISTS];
+    float our[LISTS], plain[LISTS], check[LONGEST], join[LONGEST];
+};
+static struct listed listed[KINDS][LISTED];
+
 static uint32_t seed;
 
 /* The low bits of such a generator repeat soon, so the high ones are used. */
@@ -292,6 +325,87 @@ static void go_round(int kind, int size) {
         }
 }
 
+static u16 root_of(const u16 *up, int name) {
+    while (up[name] != name) name = up[name];
+    return (u16)name;
+}
+
+/* A list for a sheet that is drawn: the regions beside lines here and there, by the names that they have by then. How many pairs
+ * it has. */
+static int make_list(struct hand h, u16 *list, int most) {
+    static u16 up[SQUARE + 1];
+    int pairs = 0;
+    for (int name = 0; name <= cells; name++) up[name] = (u16)name;
+    for (int k = 0; k < slots && pairs < most; k++) {
+        find_pair(&h, random_below(slots));
+        u16 a = root_of(up, h.a), b = root_of(up, h.b);
+        if (a == b) continue;
+        list[2 * pairs] = a;
+        list[2 * pairs++ + 1] = b;
+        up[a > b ? a : b] = a < b ? a : b;
+    }
+    return pairs;
+}
+
+/* The lists of a kind's sheets. */
+static void make_lists(int kind) {
+    for (int n = 0; n < LISTED; n++) {
+        struct listed *l = &listed[kind][n];
+        struct hand h = take(n % count);
+        if (n % count == 0) lay(n / count);
+        our_draw(h);
+        int pairs = make_list(h, l->list, n < LONG_LISTED ? LONGEST : joins[1]);
+        for (int k = 0; k < LISTS; k++) l->pairs[k] = pairs < joins[k] ? pairs : joins[k];
+        if (n >= LONG_LISTED) l->pairs[LISTS - 1] = 0;
+    }
+}
+
+/* A list of each sheet of the batch at hand that has one, by one side and then by the other. */
+static void run_lists(struct listed *l, int k) {
+    struct hand h[LISTED];
+    for (int n = 0; n < count; n++) {
+        h[n] = take(n);
+        h[n].list = l[n].list;
+        h[n].pairs = l[n].pairs[k];
+    }
+    for (int n = 0; n < count; n++) our_draw(h[n]);
+    for (int n = 0; n < count; n++) its_draw(h[n]);
+    for (int n = 0; n < count; n++)
+        if (h[n].pairs) timed(our_list, h[n], &l[n].our[k]);
+    for (int n = 0; n < count; n++)
+        if (h[n].pairs) timed(its_list, h[n], &l[n].plain[k]);
+    for (int n = 0; n < count; n++) need(same(h[n].our, h[n].plain), "the two lists of joins differ");
+}
+
+/* The joins of the lists one by one. A check goes before each but the first; it knows its way from the join before, as the check
+ * in the join after it does. */
+static void run_singly(struct listed *l) {
+    for (int n = 0; n < count; n++) our_draw(take(n));
+    for (int n = 0; n < count; n++) {
+        struct hand h = take(n);
+        for (int k = 0; k < l[n].pairs[LISTS - 1] || k < l[n].pairs[1]; k++) {
+            h.a = l[n].list[2 * k];
+            h.b = l[n].list[2 * k + 1];
+            if (k) timed(our_check, h, &l[n].check[k]);
+            timed(our_join, h, &l[n].join[k]);
+        }
+    }
+}
+
+/* The lists of a kind. */
+static void go_round_lists(int kind) {
+    make_sheets(kind, AT_72);
+    make_lists(kind);
+    for (int k = 0; k <= LISTS; k++)
+        for (int n = 0; n < LIST_BATCHES; n++) {
+            lay(n);
+            if (k < LISTS)
+                run_lists(listed[kind] + n * count, k);
+            else
+                run_singly(listed[kind] + n * count);
+        }
+}
+
 /* The mean times. */
 static struct times mean(struct least least[PLACES][BATCHES][MOST], int size) {
     struct times sum = {0, 0, 0, 0};
@@ -316,6 +430,7 @@ static void measure(void) {
         dprintf(ERRORS, "bench: round %d of %d\n", round + 1, ROUNDS);
         for (int size = 0; size < SIZES; size++)
             for (int kind = 0; kind < KINDS; kind++) go_round(kind, size);
+        for (int kind = 0; PLAIN_LISTS && kind < KINDS; kind++) go_round_lists(kind);
     }
     for (int size = 0; size < SIZES; size++)
         for (int kind = 0; kind < KINDS; kind++) {
@@ -396,6 +511,43 @@ static void turns_table(void) {
     }
 }
 
+/* What the lists of so many joins took, what plain C took for them, their parts, and their joins one by one. The parts of a list
+ * are one check and its joins without theirs: its first join as it is, and the others less their checks. */
+struct lists {
+    double our, plain, parts, singly;
+};
+
+static struct lists sum_lists(int kind, int k) {
+    struct lists sum = {0, 0, 0, 0};
+    for (int n = 0; n < LISTED; n++) {
+        const struct listed *l = &listed[kind][n];
+        sum.our += (double)l->our[k];
+        sum.plain += (double)l->plain[k];
+        for (int j = 0; j < l->pairs[k]; j++) {
+            sum.parts += (double)(l->join[j] - l->check[j]);
+            sum.singly += (double)l->join[j];
+        }
+    }
+    return sum;
+}
+
+static void lists_table(void) {
+    if (!PLAIN_LISTS) return;
+    printf("\n| sheet, 72 by 72 | 1 join: list / plain | list / one check and its joins without theirs | 10 joins: list / plain "
+           "| list / such parts | %d joins, or all: list / plain | list / such parts | list / its joins one by one |\n"
+           "|---|---|---|---|---|---|---|---|\n",
+           LONGEST);
+    for (int kind = 0; kind < KINDS; kind++) {
+        struct lists l;
+        printf("| %s |", names[kind]);
+        for (int k = 0; k < LISTS; k++) {
+            l = sum_lists(kind, k);
+            printf(" %.2f | %.2f |", l.our / l.plain, l.our / l.parts);
+        }
+        printf(" %.2f |\n", l.our / l.singly);
+    }
+}
+
 static void small_table(void) {
     printf("\n| sheet; join with its check, and without, in drawings | 4 by 4 | 9 by 9 | 18 by 18 | 36 by 36 |\n"
            "|---|---|---|---|---|\n");
@@ -440,6 +592,9 @@ static void once(int kind, const char *job) {
     }
     our_draw(h);
     plain_room = our_room;
+    u16 list[2 * LONGEST];
+    h.list = list;
+    h.pairs = make_list(h, list, joins[1]);
     find_pair(&h, slots / 2);
     if (!strcmp(job, "raimenolta_check")) our_check(h);
     if (!strcmp(job, "plain_check")) its_check(h);
@@ -447,6 +602,8 @@ static void once(int kind, const char *job) {
     if (!strcmp(job, "plain_turns")) its_turns(h);
     if (!strcmp(job, "raimenolta_join")) our_join(h);
     if (!strcmp(job, "plain_join")) its_join(h);
+    if (!strcmp(job, "raimenolta_join_list")) our_list(h);
+    if (!strcmp(job, "plain_join_list")) its_list(h);
 }
 
 /* With no word prints the tables; with the word kinds the names of the kinds; with the number of a kind and a job does that
@@ -465,6 +622,7 @@ int main(int words, char **word) {
     wide_table();
     drawings_table();
     turns_table();
+    lists_table();
     small_table();
     targets();
     growth_table();

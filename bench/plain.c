@@ -4,9 +4,9 @@
  * is stood in for by the other, and roots are searched only where the two entries differ. Lines, sides and next are loops
  * over all points that the compiler turns into vector code. A dart of level 3 whose far point is kept is linked at once; a
  * longer run is walked once for its two ends. Totals are counted for even and odd points apart, so that cells of one region
- * side by side need not wait for each other. The check reads the names off the sides, draws and compares. A join checks, takes out the
- * lines that the two regions share, looks after the points at their ends, finds pieces and parents anew, and adds the totals.
- * Sizes and lengths are the caller's business. */
+ * side by side need not wait for each other. The check reads the names off the sides, draws and compares. A join checks, takes
+ * out the lines that the two regions share, looks after the points at their ends, adds the totals, and finds pieces and parents
+ * anew. A list of joins checks once, and finds pieces and parents once, at its end. Sizes and lengths are the caller's business. */
 
 #include "plain.h"
 
@@ -352,11 +352,13 @@ static void smooth(struct seven seven, int p) {
     seven.next3[u] = seven.next3[v] = seven.other3[u] = seven.other3[v] = MARK;
 }
 
-/* Step 4 at a point. */
+/* Step 4 at a point. The anchor is found by going round the curve. */
 static void close_curve(struct seven seven, int p) {
     int u, v, e, f;
     if (!two(seven.next3, p, &u, &v) || seven.other3[u] != v || !two(seven.next1, p, &e, &f)) return;
-    two(seven.next1, piece[p], &e, &f);
+    int least = e;
+    for (int d = seven.next1[e]; d != e; d = seven.next1[d]) least = d < least ? d : least;
+    two(seven.next1, least / 4, &e, &f);
     seven.next3[u] = seven.next3[v] = seven.other3[u] = seven.other3[v] = MARK;
     seven.next3[e] = seven.other3[f] = (u16)e;
     seven.next3[f] = seven.other3[e] = (u16)f;
@@ -369,23 +371,48 @@ static void add_totals(struct seven seven, int smaller, int larger, int went) {
     seven.cells[larger] = seven.borders[larger] = MARK;
 }
 
-int plain_join(int width, int height, struct seven seven, int a, int b) {
-    if (!plain_check(width, height, seven)) return 5;
+/* Judges the names and joins, in a drawing whose lines were found, all but the parents; the larger name has none any more. */
+static int join_two(int width, int height, struct seven seven, int a, int b) {
     if (a == 0 || b == 0) return 6;
     if (a == b) return 7;
-    int row = width + 1, points = row * (height + 1);
     if (a > width * height || b > width * height || seven.parent[a] == MARK || seven.parent[b] == MARK) return 8;
-    int count = list_darts(4 * points, seven.side1, a, b);
+    int row = width + 1, count = list_darts(4 * row * (height + 1), seven.side1, a, b);
     if (!find_gone(row, count, seven.side1, a, b)) return 9;
-    /* The check has left the names of all cells; the larger of the two gives way. */
-    int smaller = a < b ? a : b, larger = a + b - smaller, framed = row * (height + 2) + 1;
+    int smaller = a < b ? a : b, larger = a + b - smaller;
     lead_past(row, count, seven);
     int went = take_out(count, seven, smaller);
     for (int i = 0; i < went; i++) smooth(seven, listed[i] / 4);
-    find_pieces(row, points);
     for (int i = 0; i < went; i++) close_curve(seven, listed[i] / 4);
-    for (int k = 0; k < framed; k++) names[k] = names[k] == larger ? (u16)smaller : names[k];
-    parents(width, height, seven.parent);
     add_totals(seven, smaller, larger, went);
+    seven.parent[larger] = MARK;
     return 0;
+}
+
+/* The parents of the names in use, from the lines and their sides: the region above the line east of a piece's least point. */
+static void find_parents(int width, int height, struct seven seven) {
+    int row = width + 1;
+    find_pieces(row, row * (height + 1));
+    for (int y = 0, name = 1; y < height; y++)
+        for (int x = 0; x < width; x++, name++) {
+            int back = 4 * (piece[y * row + x] + 1) + WEST;
+            seven.parent[name] = seven.side1[back] | ones(seven.parent[name] == MARK);
+        }
+}
+
+int plain_join(int width, int height, struct seven seven, int a, int b) {
+    if (!plain_check(width, height, seven)) return 5;
+    int number = join_two(width, height, seven, a, b);
+    if (!number) find_parents(width, height, seven);
+    return number;
+}
+
+int plain_join_list(int width, int height, struct seven seven, const u16 *list, int pairs, int *place) {
+    int number = plain_check(width, height, seven) ? 0 : 5, k = 0;
+    while (!number && k < pairs) {
+        number = join_two(width, height, seven, list[2 * k], list[2 * k + 1]);
+        k += !number;
+    }
+    if (k) find_parents(width, height, seven);
+    if (number) *place = k;
+    return number;
 }

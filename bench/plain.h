@@ -25,4 +25,9 @@ int plain_turns(int width, int height, struct seven seven, uint16_t *right, uint
 /* Judges the tables and the names, and joins; the paper's refusal number, 0 for done. */
 int plain_join(int width, int height, struct seven seven, int a, int b);
 
+/* Judges the tables once, then joins so many pairs of names in their order, up to the first that is refused, the joins before it
+ * kept; the paper's refusal number with the pair's place, from 0, or 0 for done. */
+#define PLAIN_LISTS 1
+int plain_join_list(int width, int height, struct seven seven, const uint16_t *list, int pairs, int *place);
+
 #endif
