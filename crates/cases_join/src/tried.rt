@@ -1,3 +1,4 @@
+use crate::listed;
 use crate::one;
 use crate::sitting;
 use crate::sitting::Pace;
@@ -21,10 +22,30 @@ fn join_given(size: Size, values: &[u16], lengths: Lengths)
     one::join_all(size, lent::part(values, 0, 2), lengths, tables);
 }
 
+// The place after the list that a case starts with: its count, and its names.
+fn list_end(values: &[u16]) -> usize {
+    entry::get(values, 0) as usize + 1
+}
+
+// Joins by a list in seven tables that a case gives.
+fn list_given(size: Size, values: &[u16], lengths: Lengths)
+    requires { ⌜ Fits lengths ⌝ }
+{
+    let end = list_end(values);
+    let list = lent::from(values, end);
+    let tables = tables::given(list, lent::from(list, 11));
+    listed::join_shown(size, lent::part(values, 1, end), lengths, tables);
+}
+
 // Joins the names of a case in its drawing, and writes the seven tables where they are asked for.
 fn join_names(kind: u8, size: Size, names: &[u16], lengths: Lengths, tables: Tables)
     requires { ⌜ Fits lengths ⌝ }
 {
+    if kind == b'L' {
+        let joined = listed::join_shown(size, names, lengths, tables);
+        tables::show(lengths, joined, true);
+        return;
+    }
     let joined = one::join_all(size, names, lengths, tables);
     if kind == b'T' {
         tables::show(lengths, joined, true);
@@ -47,6 +68,10 @@ fn go(kind: u8, size: Size, sheet: &mut [u16], values: &[u16], lengths: Lengths)
         join_given(size, values, lengths);
         return;
     }
+    if kind == b'M' {
+        list_given(size, values, lengths);
+        return;
+    }
     let tables = case_drawing::draw(size, sheet, lengths).tables;
     if kind == b'D' {
         sitting::sit(size, lengths, pace_of(values), sheet, tables);
@@ -62,6 +87,9 @@ fn lengths_of(kind: u8, size: Size, values: &[u16]) -> Lengths
 {
     if kind == b'J' {
         return lengths::given(lent::from(values, 2));
+    }
+    if kind == b'M' {
+        return lengths::given(lent::from(values, list_end(values)));
     }
     lengths::stated(size)
 }
