@@ -1,4 +1,4 @@
 // The check whether seven tables are the drawing of some sheet: all is drawn again from the labels that the sides tell.
 mod agree;
 pub mod check;
-mod labels;
+pub mod labels;

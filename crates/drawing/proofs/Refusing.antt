@@ -4,9 +4,9 @@
 --   told r ts ws    == the outcome that the answer r tells
 use mathlib.Core.Path.{_≡_, refl, sym, ap, _∙_}
 use mathlib.Core.Bool.{Bool, true}
-use mathlib.Core.List.{List, [], map}
+use mathlib.Core.List.{List, [], _∷_, _++_, map}
 use mathlib.Core.Logic.{_≢_}
-use Prim.Native.Nat.{ℕ, _+_, _*_}
+use Prim.Native.Nat.{ℕ, _*_}
 use lib.Dec.{lit<}
 use lib.ListN.{length}
 use borrow.Author.Tests.{eqb-true}
@@ -20,17 +20,17 @@ use Rattle.answer.specs.declared.Answer.{Answer}
 use Rattle.answer.specs.Answer.{numberOf, told}
 use Rattle.answer.proofs.Outcome.{told-early, told-done}
 use Rattle.table_lengths.specs.Lengths.{lengths}
-use Rattle.table_lengths.proofs.Tested.{Each, each-name, each-dart, by-name, by-dart, stated-lengths}
+use Rattle.table_lengths.proofs.Tested.{Each, each-dart, by-name, by-dart, stated-lengths}
 
 below : (w h n : ℕ) (k : Bool) → numbered 1 5 (drawTests w h n k) ≡ true
 unfolding numbered drawTests
 below w h n k = refl
 
--- What fits where nothing is refused: the size, the sheet, the tables by name and those by dart.
+-- What fits where nothing is refused: the size, the sheet, all tables and those by dart.
 pub record Fitting (w h n : ℕ) (ns ds : List ℕ) : Type 0 where
   pub size : within w h ≡ true
   pub sheet : n ≡ w * h
-  pub names : Each (w * h + 1) ns
+  pub lent : lengths w h ns ds ≡ true
   pub darts : Each (slots w h) ds
 
 pub all-fit : (w h n : ℕ) (ns ds : List ℕ) (r : Answer) → numberOf r ≡ firstFailed (drawTests w h n (lengths w h ns ds))
@@ -41,9 +41,15 @@ all-fit w h n ns ds r e z =
     record {
       size = p .0;
       sheet = eqb-true n (w * h) (p .1 .0);
-      names = each-name w h ns ds (p .1 .1 .0);
+      lent = p .1 .1 .0;
       darts = each-dart w h ns ds (p .1 .1 .0);
     }
+
+-- Such tables are the stated ones, also when two work tables, of the lengths m and n, have been written since.
+pub stated-still : (w h : ℕ) (t : Tables) (a b : List ℕ) (ws : List (List ℕ)) (m n : ℕ)
+    → lengths w h (map length (by-name w h t ws)) (map length (by-dart w h t []) ++ m ∷ n ∷ map length ws) ≡ true
+    → length a ≡ m → length b ≡ n → stated w h t (a ∷ b ∷ ws) ≡ true
+stated-still w h t a b ws m n e p q = sym (stated-lengths w h t (a ∷ b ∷ ws)) ∙ rw (p, q) e
 
 -- A sheet and tables of which this is answered.
 module _ (w h : ℕ) (i : List ℕ) (t : Tables) (ws : List (List ℕ)) (r : Answer)

@@ -1,4 +1,5 @@
 -- What is drawn, part by part. A work table is used at its front.
+--   Framed w h r    == the table r has at its front the names of some labels, with the outside round them
 --   Lined ..        == level 1 is drawn from the names f with the outside round them: masks, next and side
 --   Kept ..         == the points that level 3 keeps are found, from the sides of level 1 and its masks: tops and kept points
 --   Curved ..       == level 3 is drawn from level 1 next and the kept points
@@ -15,12 +16,16 @@ use Rattle.paper.specs.Level.{tops}
 use Rattle.paper.specs.Enclosure.{parent}
 use Rattle.paper.specs.Drawing.{drawn, recovered}
 use Rattle.paper.specs.Joining.{at, on}
-use Rattle.region_names.specs.Frame.{framed}
+use Rattle.region_names.specs.Frame.{surround, framed}
 use Rattle.level_masks.specs.Mask.{masked}
 use Rattle.level_lines.specs.Line.{nexts}
 use Rattle.level_lines.specs.Side.{sides}
 use Rattle.level_kept.specs.Keep.{keeps}
 use Rattle.level_curves.specs.Link.{alongNext, alongOther}
+
+pub record Framed (w h : ℕ) (r : List ℕ) : Type 0 where
+  pub labels : List ℕ
+  pub round : take (surround w h) r ≡ framed w h (names w h labels)
 
 pub record Lined (w h : ℕ) (f m x s : List ℕ) : Type 0 where
   pub masks : take (points w h) m ≡ masked w h f

@@ -13,7 +13,7 @@ ghost use Rattle.answer.specs.Answer.{numberOf};
 ghost use Rattle.join_answer.specs.Asked.{asked};
 
 // What joining answers to two names, by the parents of the drawing: done where both are regions and differ.
-fn check_names(parent: &[u16], a: u16, b: u16) -> Answer
+pub fn check_names(parent: &[u16], a: u16, b: u16) -> Answer
     ensures { λ r. ⌜ numberOf r ≡ firstFailed (nameTests (now (parent .entry)) a b) ⌝ }
 {
     if a == 0 {

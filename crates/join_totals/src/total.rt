@@ -6,7 +6,7 @@ ghost use Rattle.point_darts.specs.Dart.{mark};
 ghost use Rattle.paper.specs.Joining.{at, added};
 
 // What a and b have in a table of totals is added up, less so many, under the smaller of the two names; the larger has the mark.
-fn add_up(a: u16, b: u16, less: u16, table: &mut [u16])
+pub fn add_up(a: u16, b: u16, less: u16, table: &mut [u16])
     requires { ⌜ (at (now table) a + at (now table) b ≤ mark) × (less ≤ at (now table) a + at (now table) b) ⌝ }
     ensures { λ _. ⌜ now (table .exit) ≡ added a b less (now (table .entry)) ⌝ }
 {

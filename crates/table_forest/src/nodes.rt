@@ -10,7 +10,7 @@ ghost use Rattle.table_forest.specs.Forest.{Forest, Grown, Planted, Foun
 // A forest in a table: each node's entry is a node no greater, of the same tree; a root's entry is the root itself.
 
 // The root of a node. Each node on the way is led past the next.
-fn find(nodes: &mut [u16], i: u16) -> u16
+pub fn find(nodes: &mut [u16], i: u16) -> u16
     requires { ⌜ Planted i (now nodes) ⌝ }
     ensures { λ r. ⌜ ((p : Planted i (now (nodes .entry))) → Found (p .nodes) (p .labels) i (now (nodes .exit)) r) ⌝ }
 {
@@ -27,7 +27,7 @@ fn find(nodes: &mut [u16], i: u16) -> u16
 }
 
 // Two roots become one tree: the larger leads to the smaller, which is the answer.
-fn link(nodes: &mut [u16], a: u16, b: u16) -> u16
+pub fn link(nodes: &mut [u16], a: u16, b: u16) -> u16
     requires { ⌜ (a < length (now nodes)) × (b < length (now nodes)) ⌝ }
     ensures smaller { λ r. ⌜ r ≡ min a b ⌝ }
     ensures linked { λ _. ⌜
