@@ -30,7 +30,8 @@ use Rattle.join_rule.specs.Apply.{pair, Ready}
 use Rattle.join_rule.proofs.Readiness.{drawn-ready}
 use Rattle.join_call.specs.Faithful.{Faithful}
 use Rattle.join_call.proofs.Afresh.{joined-faithful}
-use Rattle.join_call.proofs.Cleared.{cleared-twice, cleared-stated, rest-cleared}
+use Rattle.join_list.proofs.Ending.{rest-cleared}
+use Rattle.join_call.proofs.Cleared.{cleared-twice, cleared-stated}
 
 -- Joining a and b in the tables t after a check that answered v and left the work tables vs, where the names are answered by o:
 -- what is promised of the tables u and the work tables xs that it leaves with the answer r.

@@ -21,15 +21,14 @@ use Rattle.answer.proofs.Outcome.{work-cleared}
 use Rattle.table_lengths.specs.Given.{works}
 use Rattle.check_answer.specs.Check.{checked}
 use Rattle.check_answer.proofs.Given.{given-number, given-work}
-use Rattle.join_rule.specs.Apply.{pair}
-use Rattle.join_rule.proofs.Readiness.{stated-pair}
 use Rattle.join_answer.specs.Judge.{judged}
 use Rattle.join_answer.proofs.Judging.{judged-tests, judged-work}
 use Rattle.join_list.specs.declared.each.Listed.{Listed}
 use Rattle.join_list.specs.Answer.{listNumber, listValues, listed}
-use Rattle.join_list.specs.Each.{Open, Ended}
+use Rattle.join_groups.specs.Group.{Open}
+use Rattle.join_list.specs.Each.{Ended}
 use Rattle.join_list.proofs.Ending.{joins-late}
-use Rattle.join_call.proofs.Cleared.{cleared-twice, cleared-stated, front-cleared, rest-cleared}
+use Rattle.join_call.proofs.Cleared.{cleared-twice, cleared-stated}
 
 -- what a stop tells, with the work tables ws
 abbrev reported : Stop → List (List ℕ) → Outcome
@@ -80,27 +79,20 @@ module _ (w h : ℕ) (t : Tables) (l : List ℕ) (ws vs : List (List ℕ)) (v : 
     still : works c₁ d₁ e₁ f₁ ≡ cleared (works c₁ d₁ e₁ f₁)
     still = clear ∙ sym (cleared-twice ws) ∙ ap cleared (sym clear)
 
-    pub list-open : (whole w (length l) ≡ true) × Open w h t (pair c₁ d₁) × (pair c₁ d₁ ≡ cleared (pair c₁ d₁))
+    pub list-open : (whole w (length l) ≡ true) × Open w h t (works c₁ d₁ e₁ f₁) × (works c₁ d₁ e₁ f₁ ≡ cleared (works c₁ d₁ e₁ f₁))
     unfolding listTests sizeTests
     list-open =
         let p = passed in (
           p .1 .1 .0,
-          record {
-            size = p .0;
-            sizes = stated-pair w h t c₁ d₁ e₁ f₁ (rw (clear, cleared-stated) (p .1 .0));
-            drawn = is-drawing-drawn w h t (p .1 .1 .1 .0);
-          },
-          front-cleared c₁ d₁ e₁ f₁ still,
+          record { size = p .0; sizes = rw (clear, cleared-stated) (p .1 .0); drawn = is-drawing-drawn w h t (p .1 .1 .1 .0) },
+          still,
         )
 
-    pub list-ends : (r : Listed) (u : Tables) (x y : List ℕ) → Ended r (joins w h 0 (pairs l) t) u → pair x y ≡ cleared (pair c₁ d₁)
-        → listed r (seven u) (works x y e₁ f₁) ≡ mergedList w h t l ws
+    pub list-ends : (r : Listed) (u : Tables) (xs : List (List ℕ)) → Ended r (joins w h 0 (pairs l) t) u
+        → xs ≡ cleared (works c₁ d₁ e₁ f₁) → listed r (seven u) xs ≡ mergedList w h t l ws
     unfolding listed mergedList listStop unless
-    list-ends r u x y q f =
+    list-ends r u xs q f =
         let k = joins w h 0 (pairs l) t .number in
-        let m : works x y e₁ f₁ ≡ workLeft k ws =
-        rest-cleared c₁ d₁ e₁ f₁ still x y f
-        ∙ sym still
-        ∙ clear
-        ∙ sym (work-cleared k ws (λ n. omega (arith, joins-late w h 0 (pairs l) t n))) in
+        let m : xs ≡ workLeft k ws =
+        f ∙ sym still ∙ clear ∙ sym (work-cleared k ws (λ n. omega (arith, joins-late w h 0 (pairs l) t n))) in
         rw (q .number, q .values, q .tables, m, sym number ∙ z)

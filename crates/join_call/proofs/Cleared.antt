@@ -7,8 +7,6 @@ use lib.Dec.{eqb}
 use lib.ListN.{length, replicate, length-replicate}
 use Rattle.paper.specs.Drawing.{Tables}
 use Rattle.paper.specs.Refusal.{sized, stated, cleared}
-use Rattle.table_lengths.specs.Given.{works}
-use Rattle.join_rule.specs.Apply.{pair}
 
 pub cleared-twice : (ws : List (List ℕ)) → cleared (cleared ws) ≡ cleared ws
 unfolding cleared
@@ -23,13 +21,3 @@ cleared-sized n (t ∷ ts) = ap₂ _&&_ (ap (λ k. eqb k n) (length-replicate (l
 pub cleared-stated : (w h : ℕ) (t : Tables) (ws : List (List ℕ)) → stated w h t (cleared ws) ≡ stated w h t ws
 unfolding stated sized
 cleared-stated w h t ws = rw cleared-sized
-
--- where four are cleared, so are the first two; and all four, where these are cleared once more
-module _ (a b c d : List ℕ) (e : works a b c d ≡ cleared (works a b c d)) where
-  pub front-cleared : pair a b ≡ cleared (pair a b)
-  unfolding cleared
-  front-cleared = cc
-
-  pub rest-cleared : (x y : List ℕ) → pair x y ≡ cleared (pair a b) → works x y c d ≡ cleared (works a b c d)
-  unfolding cleared
-  rest-cleared x y f = cc

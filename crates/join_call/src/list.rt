@@ -73,5 +73,7 @@ pub fn join_list(
         borders,
         work_a,
         work_b,
+        work_c,
+        work_d,
     )
 }

@@ -14,18 +14,20 @@ use Rattle.paper.specs.Name.{names}
 use Rattle.paper.specs.Enclosure.{parents}
 use Rattle.paper.specs.Drawing.{Tables, drawing, Drawn}
 use Rattle.paper.specs.Joining.{at, on, joined}
-use Rattle.paper.specs.Refusal.{pairTests}
+use Rattle.paper.specs.Refusal.{cleared, pairTests}
 use Rattle.paper.specs.Order.{Stop, pairs, unless, joins, placed}
 use Rattle.paper_laws.proofs.Marks.{within-fits, names-side-small}
 use Rattle.paper_laws.proofs.Joined.{parents-drawn}
 use Rattle.paper_laws.proofs.Order.{pair-numbered}
 use Rattle.answer.specs.declared.Answer.{Answer}
 use Rattle.answer.specs.Answer.{numberOf}
-use Rattle.table_lengths.specs.Given.{tables}
+use Rattle.table_lengths.specs.Given.{tables, works}
 use Rattle.join_rule.specs.Apply.{pair, found}
+use Rattle.join_rule.proofs.Readiness.{stated-pair}
 use Rattle.join_list.specs.declared.each.Listed.{Listed}
 use Rattle.join_list.specs.Answer.{listNumber, listValues}
-use Rattle.join_list.specs.Each.{Open, stop, Left, Ended}
+use Rattle.join_groups.specs.Group.{stop, Open}
+use Rattle.join_list.specs.Each.{Left, Ended}
 
 -- The answer.
 module _ (r : Answer) (i : ℕ) where
@@ -41,6 +43,16 @@ module _ (r : Answer) (i : ℕ) where
       by : (k : ℕ) → k ≢ 0 → listValues (Listed.Refused r i) ≡ placed k i
       by zero z = absurd (z refl)
       by (suc k) z = refl
+
+-- It tells where the list stops.
+pub stop-ended : (n i : ℕ) (t : Tables) (s : Stop) → stop n i t ≡ s → (r : Listed) → (listNumber r ≡ n) × (listValues r ≡ placed n i)
+    → Ended r s t
+stop-ended n i t s e r p =
+    record {
+      number = p .0 ∙ ap (λ (z : Stop). z .number) e;
+      values = p .1 ∙ ap (λ (z : Stop). placed (z .number) (z .place)) e;
+      tables = ap (λ (z : Stop). z .tables) e;
+    }
 
 -- No entry is refused with a number below 6.
 unless-late : (k i : ℕ) (t : Tables) (s : Stop) → (k ≢ 0 → 6 ≤ k) → (s .number ≢ 0 → 6 ≤ s .number)
@@ -92,9 +104,19 @@ module _ (w h : ℕ) (x s y o p c e b l : List ℕ) (k : Open w h (tables x s y 
 
     pub all-ended : (r : Listed) → (listNumber r ≡ n) × (listValues r ≡ placed n i)
         → Ended r (joins w h 0 (pairs ns) (tables x s y o p c e)) (tables x₁ s₁ y₁ o₁ p₁ c₁ e₁)
-    all-ended r t =
-        record {
-          number = t .0 ∙ ap (λ (z : Stop). z .number) stops;
-          values = t .1 ∙ ap (λ (z : Stop). placed (z .number) (z .place)) stops;
-          tables = ap (λ (z : Stop). z .tables) stops;
-        }
+    all-ended = stop-ended n i (tables x₁ s₁ y₁ o₁ p₁ c₁ e₁) (joins w h 0 (pairs ns) (tables x s y o p c e)) stops
+
+-- Two work tables, the first of four.
+module _ (a b c d : List ℕ) where
+  pub open-pair : (w h : ℕ) (t : Tables) → Open w h t (works a b c d) → Open w h t (pair a b)
+  open-pair w h t o = record { size = o .size; sizes = stated-pair w h t a b c d (o .sizes); drawn = o .drawn }
+
+  -- where four are cleared, so are the first two; and all four, where these are cleared once more
+  module _ (e : works a b c d ≡ cleared (works a b c d)) where
+    pub front-cleared : pair a b ≡ cleared (pair a b)
+    unfolding cleared
+    front-cleared = cc
+
+    pub rest-cleared : (x y : List ℕ) → pair x y ≡ cleared (pair a b) → works x y c d ≡ cleared (works a b c d)
+    unfolding cleared
+    rest-cleared x y f = cc

@@ -2,118 +2,64 @@
 --   Going w h l t b m u c n r i == after i entries of the list l, which led from the drawing t and the work tables b and m to the
 --                      drawing u and the work tables c and n, the names r are left
 use mathlib.Core.Path.{_≡_, refl, sym, _∙_}
-use mathlib.Core.Bool.{Bool, true, false, cond}
-use mathlib.Core.List.{List, [], _∷_}
+use mathlib.Core.Bool.{true}
+use mathlib.Core.List.{List}
 use mathlib.Core.Logic.{_≢_}
-use Prim.Native.Nat.{ℕ, zero, suc, _+_, _*_, _-_, _%_, _≤_, _<_}
-use native.Mathlib.Nat.{le-refl}
+use Prim.Native.Nat.{ℕ, _+_, _*_, _-_, _≤_, _<_}
 use native.Mathlib.Omega.{arith}
-use lib.Dec.{eqb, leb}
-use lib.ListN.{length, getD, take, drop, length-drop}
-use lib.Seq.{take-all}
-use borrow.Author.Tests.{leb-true}
+use lib.ListN.{length, getD, take, drop}
 use Rattle.laws.specs.First.{firstFailed}
 use Rattle.laws.proofs.Table.{length-table}
-use Rattle.laws.proofs.Test.{and-right}
 use Rattle.paper.specs.Level.{tops}
 use Rattle.paper.specs.Enclosure.{parent, parents}
 use Rattle.paper.specs.Drawing.{Tables}
 use Rattle.paper.specs.Joining.{at, on, joined}
 use Rattle.paper.specs.Refusal.{sized, stated, pairTests}
-use Rattle.paper.specs.Order.{pairs, whole, unless, joins}
+use Rattle.paper.specs.Order.{pairs, joins}
 use Rattle.paper_laws.proofs.Marks.{within-fits}
 use Rattle.paper_laws.proofs.Order.{passed-joinable}
 use Rattle.paper_laws.proofs.Theorem.{joined-again}
 use Rattle.table_lengths.proofs.Tested.{stated-names, stated-slots}
 use Rattle.join_rule.specs.Apply.{pair, found, Topped}
-use Rattle.join_list.specs.Each.{Open, stop, Left}
+use Rattle.join_groups.specs.Group.{stop, Open}
+use Rattle.join_groups.proofs.Entries as Entries
+use Rattle.join_list.specs.Each.{Left}
 
 pub record Going (w h : ℕ) (l : List ℕ) (t : Tables) (b m : List ℕ) (u : Tables) (c n r : List ℕ) (i : ℕ) : Type 0 where
-  pub on : joins w h i (pairs r) u ≡ joins w h 0 (pairs l) t
+  pub entries : Entries.Going w h l t u r i
   pub lent : Open w h u (pair c n)
   pub left : Left w h i t b m u c n
-  pub long : 2 * i + length r ≡ length l
-
--- a list that may be lent has at most 7,919 entries
-pub whole-most : (w n : ℕ) → whole w n ≡ true → n ≤ 15838
-unfolding whole
-whole-most w n e = by (leb w 72) refl
-  where
-    long : n ≤ 2 * cond (leb w 72) 5183 7919
-    long = leb-true n (2 * cond (leb w 72) 5183 7919) (and-right (eqb (n % 2) 0) (leb n (2 * cond (leb w 72) 5183 7919)) e)
-
-    by : (k : Bool) → leb w 72 ≡ k → n ≤ 15838
-    by true q = let z = rw q at long in omega (arith, z)
-    by false q = let z = rw q at long in omega (arith, z)
-
--- the next entry of a list, and the end
-pairs-next : (r : List ℕ) → 1 < length r → pairs r ≡ (getD r 0 0, getD r 1 0) ∷ pairs (drop 2 r)
-unfolding pairs
-pairs-next [] l = absurd (omega (arith, l))
-pairs-next (a ∷ []) l = absurd (omega (arith, l))
-pairs-next (a ∷ b ∷ r) l = refl
-
-rest-all : (r : List ℕ) → take (length r - 2) (drop 2 r) ≡ drop 2 r
-rest-all r = take-all (length r - 2) (drop 2 r) (rw length-drop (le-refl _))
-
-pub rest-less : (r : List ℕ) → 1 < length r → length (take (length r - 2) (drop 2 r)) < length r
-rest-less r l = rw rest-all (omega (arith, length-drop 2 r))
-
-pairs-end : (r : List ℕ) → length r ≤ 1 → pairs r ≡ []
-unfolding pairs
-pairs-end [] l = refl
-pairs-end (a ∷ []) l = refl
-pairs-end (a ∷ b ∷ r) l = absurd (omega (arith, l))
 
 module _ (w h : ℕ) (l : List ℕ) (t : Tables) (b m : List ℕ) where
   pub going-start : Open w h t (pair b m) → Going w h l t b m t b m l 0
   going-start o =
       record {
-        on = refl;
+        entries = Entries.going-start w h l t;
         lent = o;
         left = record { none = λ z. (refl, refl, refl); some = λ n. absurd (n refl) };
-        long = omega arith;
       }
 
   module _ (u : Tables) (c n r : List ℕ) (i : ℕ) (g : Going w h l t b m u c n r i) where
     -- past the last entry
     pub going-end : length r ≤ 1 → stop 0 i u ≡ joins w h 0 (pairs l) t
-    unfolding joins
-    going-end e = rw (pairs-end r e) at (g .on)
+    going-end = Entries.going-end w h l t u r i (g .entries)
 
     module _ (e : 1 < length r) (k : ℕ) (f : k ≡ firstFailed (pairTests w h (u .side1) (u .parent) (getD r 0 0) (getD r 1 0))) where
-      next : unless k i u (joins w h (suc i) (pairs (drop 2 r)) (joined w h u (getD r 0 0) (getD r 1 0))) ≡ joins w h 0 (pairs l) t
-      unfolding joins
-      next = rw f (rw (pairs-next r e) at (g .on))
-
-      stops : k ≢ 0 → stop k i u ≡ joins w h 0 (pairs l) t
-      unfolding unless
-      stops = by k next
-        where
-          by : (k : ℕ)
-              → unless k i u (joins w h (suc i) (pairs (drop 2 r)) (joined w h u (getD r 0 0) (getD r 1 0))) ≡ joins w h 0 (pairs l) t
-              → k ≢ 0 → stop k i u ≡ joins w h 0 (pairs l) t
-          by zero q z = absurd (z refl)
-          by (suc k) q z = q
-
       -- the entry is refused, and all stays as it is
       pub going-stops : k ≢ 0 → (v : Tables) (d p : List ℕ) → (v ≡ u) × (d ≡ c) × (p ≡ n)
           → (stop k i v ≡ joins w h 0 (pairs l) t) × Left w h i t b m v d p
-      going-stops z v d p (x, y, q) = (rw x (stops z), rw (x, y, q) (g .left))
+      going-stops z v d p (x, y, q) = (rw x (Entries.going-stops w h l t u r i (g .entries) e k f z), rw (x, y, q) (g .left))
 
       -- it is joined
       pub going-on : k ≡ 0 → (v : Tables) (d p : List ℕ) → v ≡ joined w h u (getD r 0 0) (getD r 1 0) → Topped w h (v .side1) d
           → stated w h v (pair d p) ≡ true → Going w h l t b m v d p (take (length r - 2) (drop 2 r)) (i + 1)
-      unfolding unless
       going-on z v d p q a s =
           let o = g .lent in
-          let k : i + 1 ≡ suc i = omega arith in
           let j = passed-joinable w h u (getD r 0 0) (getD r 1 0) (sym f ∙ z) in
           record {
-            on = rw (q, k, rest-all) (rw z at next);
+            entries = rw q (Entries.going-on w h l t u r i (g .entries) e k f z);
             lent = record { size = o .size; sizes = s; drawn = rw q (joined-again w h (within-fits w h (o .size)) (o .drawn) j) };
             left = record { none = λ y. absurd (omega (arith, y)); some = λ y. a };
-            long = rw rest-all (omega (arith, g .long, length-drop 2 r));
           }
 
 -- Tables that keep their lengths keep the stated ones, and such tables have the same lengths.

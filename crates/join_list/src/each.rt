@@ -1,6 +1,8 @@
 // The entries of a list, one after another.
 use crate::pair;
 use answer::Answer;
+use join_groups::each::End;
+use join_groups::group;
 use join_rule::apply;
 ghost use mathlib.Core.Path.{_≡_};
 ghost use mathlib.Core.Bool.{true};
@@ -13,23 +15,18 @@ ghost use Rattle.paper.specs.Enclosure.{parents};
 ghost use Rattle.paper.specs.Joining.{at, on};
 ghost use Rattle.paper.specs.Refusal.{cleared};
 ghost use Rattle.paper.specs.Order.{pairs, whole, joins, placed};
-ghost use Rattle.table_lengths.specs.Given.{tables};
+ghost use Rattle.table_lengths.specs.Given.{tables, works};
 ghost use Rattle.answer.specs.Answer.{numberOf};
 ghost use Rattle.join_rule.specs.Apply.{pair, found, Topped};
 ghost use Rattle.join_list.specs.Answer.{listNumber, listValues};
-ghost use Rattle.join_list.specs.Each.{Open, Left, Ended, stop};
+ghost use Rattle.join_groups.specs.Group.{stop, Open};
+ghost use Rattle.join_list.specs.Each.{Left, Ended};
 
 // What joining by a list answers.
 pub enum Listed {
     Done,
     // What is refused, and the place of the entry, counted from 0; 0 also where it is no entry that is refused.
     Refused { answer: Answer, place: u16 },
-}
-
-// Where a list stops: what is answered there, and how many entries were joined.
-struct End {
-    answer: Answer,
-    place: u16,
 }
 
 // The entries of a list are joined one after another, up to the first that is refused, but for the parents.
@@ -139,9 +136,9 @@ fn parents_after(
     apply::find_parents(width, height, side1, parent, back, list);
 }
 
-// Joins by a list of names, two by two, in the seven tables of a drawing: one entry after another, up to the first that is refused.
-// The parents are found once, after the last join. Back and list are work tables, all 0, and are left so.
-pub fn join_all(
+// Joins by a short list, in the seven tables of a drawing: entry by entry, by the removal rule. The parents are found once, after the
+// last join. Back and list are work tables, all 0, and are left so.
+fn join_short(
     width: u16,
     height: u16,
     names: &[u16],
@@ -185,6 +182,81 @@ pub fn join_all(
         list,
     );
     parents_after(end.place, width, height, side1, parent, back, list);
+    let answer = end.answer;
+    told(answer, end.place)
+}
+
+// A list of so many names or more is joined as groups: it costs little more than a drawing, which is less than so many joins.
+const LONG: usize = 8;
+
+// Joins by a list of names, two by two, in the seven tables of a drawing: one entry after another, up to the first that is refused.
+// The work tables are all 0, and are left so.
+pub fn join_all(
+    width: u16,
+    height: u16,
+    names: &[u16],
+    next1: &mut [u16],
+    side1: &mut [u16],
+    next3: &mut [u16],
+    other3: &mut [u16],
+    parent: &mut [u16],
+    cells: &mut [u16],
+    borders: &mut [u16],
+    work_a: &mut [u16],
+    work_b: &mut [u16],
+    work_c: &mut [u16],
+    work_d: &mut [u16],
+) -> Listed
+    requires { ⌜
+        (whole width (length (now names)) ≡ true) ×
+        Open width height (tables (now next1) (now side1) (now next3) (now other3) (now parent) (now cells) (now borders))
+        (works (now «work_a») (now «work_b») (now «work_c») (now «work_d»)) ×
+        (works (now «work_a») (now «work_b») (now «work_c») (now «work_d») ≡
+        cleared (works (now «work_a») (now «work_b») (now «work_c») (now «work_d»)))
+        ⌝ }
+    ensures { λ r. ⌜
+        Ended r
+        (joins width height 0 (pairs (now (names .entry)))
+        (tables (now (next1 .entry)) (now (side1 .entry)) (now (next3 .entry)) (now (other3 .entry)) (now (parent .entry))
+        (now (cells .entry)) (now (borders .entry))))
+        (tables (now (next1 .exit)) (now (side1 .exit)) (now (next3 .exit)) (now (other3 .exit)) (now (parent .exit))
+        (now (cells .exit)) (now (borders .exit))) ×
+        (works (now («work_a» .exit)) (now («work_b» .exit)) (now («work_c» .exit)) (now («work_d» .exit)) ≡
+        cleared (works (now («work_a» .entry)) (now («work_b» .entry)) (now («work_c» .entry)) (now («work_d» .entry))))
+        ⌝ }
+{
+    if names.len() < LONG {
+        return join_short(
+            width,
+            height,
+            names,
+            next1,
+            side1,
+            next3,
+            other3,
+            parent,
+            cells,
+            borders,
+            work_a,
+            work_b,
+        );
+    }
+    let end = group::join_all(
+        width,
+        height,
+        names,
+        next1,
+        side1,
+        next3,
+        other3,
+        parent,
+        cells,
+        borders,
+        work_a,
+        work_b,
+        work_c,
+        work_d,
+    );
     let answer = end.answer;
     told(answer, end.place)
 }

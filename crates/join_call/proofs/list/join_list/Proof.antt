@@ -13,12 +13,12 @@ abbrev checked : tie.After-judged → tie.After-check
 checked c = c .before .before .before .before .before .before .before .before .before
 
 abbrev judged : tie.After-join-all → tie.After-judged
-judged c = c .before .before .before .before .before .before .before .before .before .before .before .before
+judged c = c .before .before .before .before .before .before .before .before .before .before .before .before .before .before
 
-abbrev end : tie.After-slice-known24 → tie.After-join-all
+abbrev end : tie.After-slice-known26 → tie.After-join-all
 end c =
-    let d = c .before .before .before .before .before .before .before .before .before in
-    d .before .before .before .before .before .before .before .before .before
+    let d = c .before .before .before .before .before .before .before .before .before .before .before in
+    d .before .before .before .before .before .before .before .before .before .before .before
 
 check-requires : tie.Need-check-requires
 check-requires c κs = tt
@@ -69,10 +69,11 @@ returns c =
 
 join-all-requires : tie.Need-join-all-requires
 join-all-requires c κs =
-    let n = c .before .before .before .before .before .before .before .before .before .before in
+    let i = c .before .before .before .before .before .before .before .before .before .before .before in
+    let n = i .before in
     let j = n .before in
     list-open _ _ _ (start (checked j) .args .names .now) _ _ _ (checked j .check .ensures) _ (j .judged .ensures)
-    (sym (n .number .ensures) ∙ c .before .before .before .before .before .before .before .before .before .if1 .left) _ _ _ _ refl
+    (sym (n .number .ensures) ∙ i .if1 .left) _ _ _ _ refl
 
 same-length-12 : tie.Need-same-length-12
 same-length-12 c = end c .join-all .kept .1 .1 .1 .0
@@ -106,19 +107,23 @@ same-length-20 c =
     a .join-all .kept .1 .1 .1 .1 .1 .1 .1 .1 .1 .1 .1 .0 ∙ checked (judged a) .check .kept .1 .1 .1 .1 .1 .1 .1 .1 .1 .1 .0
 
 same-length-21 : tie.Need-same-length-21
-same-length-21 c = checked (judged (end c)) .check .kept .1 .1 .1 .1 .1 .1 .1 .1 .1 .1 .1 .0
+same-length-21 c =
+    let a = end c in
+    a .join-all .kept .1 .1 .1 .1 .1 .1 .1 .1 .1 .1 .1 .1 .0 ∙ checked (judged a) .check .kept .1 .1 .1 .1 .1 .1 .1 .1 .1 .1 .1 .0
 
 same-length-22 : tie.Need-same-length-22
-same-length-22 c = checked (judged (end c)) .check .kept .1 .1 .1 .1 .1 .1 .1 .1 .1 .1 .1 .1 .0
+same-length-22 c =
+    let a = end c in
+    a .join-all .kept .1 .1 .1 .1 .1 .1 .1 .1 .1 .1 .1 .1 .1 .0 ∙ checked (judged a) .check .kept .1 .1 .1 .1 .1 .1 .1 .1 .1 .1 .1 .1 .0
 
 returns-2 : tie.Need-returns-2
 returns-2 c =
     let a = end c in
     let j = judged a in
-    let i = a .before .before .before .before .before .before .before .before .before .before in
+    let i = a .before .before .before .before .before .before .before .before .before .before .before .before in
     let z = sym (i .before .number .ensures) ∙ i .if1 .left in
     let p = a .join-all .ensures in
-    list-ends _ _ _ _ _ _ _ (checked j .check .ensures) _ (j .judged .ensures) z _ _ _ _ refl _ _ _ _ (p .0) (p .1)
+    list-ends _ _ _ _ _ _ _ (checked j .check .ensures) _ (j .judged .ensures) z _ _ _ _ refl _ _ _ (p .0) (p .1)
 
 pub join-list-spec : {M : Type 1} → statement M
 join-list-spec =

@@ -1,96 +1,114 @@
-use mathlib.Core.Path.{_∙_}
-use borrow.Author.Needs.{needs}
-use Rattle.table_lengths.proofs.Tested.{stated-names, stated-slots}
-use Rattle.join_rule.proofs.Applying.{cleared-long}
-use Rattle.join_list.proofs.Ending.{open-found, all-ended}
+use Rattle.join_list.proofs.Ending.{stop-ended, open-pair, front-cleared, rest-cleared}
 use Rattle.join_list.proofs.each.join_all.Statement.{statement}
 use Rattle.join_list.proofs.each.join_all.Tie as tie
 
--- From each call back to the call before it, and to the start.
-abbrev start : tie.After-join-each → tie.Start
-start c =
-    let d = c .before .before .before .before .before .before .before .before .before in
-    d .before .before .before .before .before .before .before .before .before .before
-
-abbrev joined : tie.After-parents-after → tie.After-join-each
-joined c =
+-- From each call back to the start.
+abbrev short : tie.After-join-short → tie.Start
+short c =
     let d = c .before .before .before .before .before .before .before .before .before .before in
+    d .before .before .before .before .before .before .before .before .before .before .before .before .before
+
+abbrev joined : tie.After-slice-known20 → tie.After-join-short
+joined c =
+    let d = c .before .before .before .before .before .before .before .before .before in
+    d .before .before .before .before .before .before .before .before .before
+
+abbrev ended : tie.After-told → tie.After-join-all
+ended c =
+    let d = c .before .before .before .before .before .before .before .before .before .before .before .before in
     d .before .before .before .before .before .before .before .before .before .before .before
 
-abbrev ended : tie.After-told → tie.After-parents-after
-ended c = c .before .before .before .before .before .before .before
-
-join-each-requires : tie.Need-join-each-requires
-join-each-requires c κs =
-    let d = c .before .before .before .before .before .before .before .before .before in
-    let q = d .before .before .before .before .before .before .before .before .before .pre in
-    (q .0, open-found _ _ _ _ _ _ _ _ _ _ _ (q .1))
-
-parents-after-requires : tie.Need-parents-after-requires
-parents-after-requires c κs =
+join-short-requires : tie.Need-join-short-requires
+join-short-requires c κs =
     let d = c .before .before .before .before .before .before .before .before .before .before in
-    let j = d .before .before .before .before .before .before .before .before .before .before in
-    let q = start j .pre in
-    let k = j .join-each .kept .1 .1 .1 .1 in
-    let z = stated-slots _ _ _ _ (q .1 .sizes) in
-    let l = j .join-each .ensures .1 in (
-      q .1 .size,
-      k .0 ∙ z .1 .0,
-      stated-names _ _ _ _ (q .1 .sizes) .0,
-      k .1 .1 .1 .1 .1 .0 ∙ z .1 .1 .1 .1 .0,
-      λ y. let (_, b, m) = l .none y in rw (b, m) (q .2),
-      l .some,
-    )
-
-told-requires : tie.Need-told-requires
-told-requires c κs = search needs
+    let q = d .before .before .before .before .before .before .before .before .before .before .before .before .pre in
+    (q .0, open-pair _ _ _ _ _ _ _ (q .1), front-cleared _ _ _ _ (q .2))
 
 same-length : tie.Need-same-length
-same-length c = joined (ended c) .join-each .kept .1 .1 .1 .0
+same-length c = joined c .join-short .kept .1 .1 .1 .0
 
 same-length-2 : tie.Need-same-length-2
-same-length-2 c = joined (ended c) .join-each .kept .1 .1 .1 .1 .0
+same-length-2 c = joined c .join-short .kept .1 .1 .1 .1 .0
 
 same-length-3 : tie.Need-same-length-3
-same-length-3 c = joined (ended c) .join-each .kept .1 .1 .1 .1 .1 .0
+same-length-3 c = joined c .join-short .kept .1 .1 .1 .1 .1 .0
 
 same-length-4 : tie.Need-same-length-4
-same-length-4 c = joined (ended c) .join-each .kept .1 .1 .1 .1 .1 .1 .0
+same-length-4 c = joined c .join-short .kept .1 .1 .1 .1 .1 .1 .0
 
 same-length-5 : tie.Need-same-length-5
-same-length-5 c = ended c .parents-after .kept .1 .1 .1 .1 .0
+same-length-5 c = joined c .join-short .kept .1 .1 .1 .1 .1 .1 .1 .0
 
 same-length-6 : tie.Need-same-length-6
-same-length-6 c = joined (ended c) .join-each .kept .1 .1 .1 .1 .1 .1 .1 .0
+same-length-6 c = joined c .join-short .kept .1 .1 .1 .1 .1 .1 .1 .1 .0
 
 same-length-7 : tie.Need-same-length-7
-same-length-7 c = joined (ended c) .join-each .kept .1 .1 .1 .1 .1 .1 .1 .1 .0
+same-length-7 c = joined c .join-short .kept .1 .1 .1 .1 .1 .1 .1 .1 .1 .0
 
 same-length-8 : tie.Need-same-length-8
-same-length-8 c = ended c .parents-after .kept .1 .1 .1 .1 .1 .0 ∙ joined (ended c) .join-each .kept .1 .1 .1 .1 .1 .1 .1 .1 .1 .0
+same-length-8 c = joined c .join-short .kept .1 .1 .1 .1 .1 .1 .1 .1 .1 .1 .0
 
 same-length-9 : tie.Need-same-length-9
-same-length-9 c = ended c .parents-after .kept .1 .1 .1 .1 .1 .1 .0 ∙ joined (ended c) .join-each .kept .1 .1 .1 .1 .1 .1 .1 .1 .1 .1 .0
+same-length-9 c = joined c .join-short .kept .1 .1 .1 .1 .1 .1 .1 .1 .1 .1 .1 .0
 
 returns : tie.Need-returns
 returns c =
-    let a = ended c in
-    let j = joined a in
-    let q = start j .pre in
-    let k = j .join-each .kept .1 .1 .1 .1 .1 .1 .1 .1 .1 in
-    let p = a .parents-after .ensures in (
-      all-ended _ _ _ _ _ _ _ _ _ _ _ (q .1) _ _ _ _ _ _ _ _ _ _ _ _ (j .join-each .ensures .0) (j .join-each .ensures .1) (p .0)
-          (p .1) _ (c .told .ensures),
-      p .2 ∙ cleared-long _ _ _ _ (k .0) (k .1 .0),
-    )
+    let j = joined c in
+    let (p, q) = j .join-short .ensures in
+    (p, rest-cleared _ _ _ _ (short j .pre .2) _ _ q)
+
+join-all-requires : tie.Need-join-all-requires
+join-all-requires c κs =
+    let d = c .before .before .before .before .before .before .before .before .before .before .before .before in
+    let q = d .before .before .before .before .before .before .before .before .before .before .before .before .pre in
+    (q .0, q .1)
+
+told-requires : tie.Need-told-requires
+told-requires c κs = tt
+
+same-length-10 : tie.Need-same-length-10
+same-length-10 c = ended c .join-all .kept .1 .1 .1 .0
+
+same-length-11 : tie.Need-same-length-11
+same-length-11 c = ended c .join-all .kept .1 .1 .1 .1 .0
+
+same-length-12 : tie.Need-same-length-12
+same-length-12 c = ended c .join-all .kept .1 .1 .1 .1 .1 .0
+
+same-length-13 : tie.Need-same-length-13
+same-length-13 c = ended c .join-all .kept .1 .1 .1 .1 .1 .1 .0
+
+same-length-14 : tie.Need-same-length-14
+same-length-14 c = ended c .join-all .kept .1 .1 .1 .1 .1 .1 .1 .0
+
+same-length-15 : tie.Need-same-length-15
+same-length-15 c = ended c .join-all .kept .1 .1 .1 .1 .1 .1 .1 .1 .0
+
+same-length-16 : tie.Need-same-length-16
+same-length-16 c = ended c .join-all .kept .1 .1 .1 .1 .1 .1 .1 .1 .1 .0
+
+same-length-17 : tie.Need-same-length-17
+same-length-17 c = ended c .join-all .kept .1 .1 .1 .1 .1 .1 .1 .1 .1 .1 .0
+
+same-length-18 : tie.Need-same-length-18
+same-length-18 c = ended c .join-all .kept .1 .1 .1 .1 .1 .1 .1 .1 .1 .1 .1 .0
+
+same-length-19 : tie.Need-same-length-19
+same-length-19 c = ended c .join-all .kept .1 .1 .1 .1 .1 .1 .1 .1 .1 .1 .1 .1 .0
+
+same-length-20 : tie.Need-same-length-20
+same-length-20 c = ended c .join-all .kept .1 .1 .1 .1 .1 .1 .1 .1 .1 .1 .1 .1 .1 .0
+
+returns-2 : tie.Need-returns-2
+returns-2 c =
+    let (p, q) = ended c .join-all .ensures in
+    (stop-ended _ _ _ _ p _ (c .told .ensures), q)
 
 pub join-all-spec : {M : Type 1} → statement M
 join-all-spec =
     tie.close
     (tie.spec
-    join-each-requires
-    parents-after-requires
-    told-requires
+    join-short-requires
     same-length
     same-length-2
     same-length-3
@@ -100,4 +118,18 @@ join-all-spec =
     same-length-7
     same-length-8
     same-length-9
-    returns)
+    returns
+    join-all-requires
+    told-requires
+    same-length-10
+    same-length-11
+    same-length-12
+    same-length-13
+    same-length-14
+    same-length-15
+    same-length-16
+    same-length-17
+    same-length-18
+    same-length-19
+    same-length-20
+    returns-2)

@@ -6,9 +6,10 @@ use native.Mathlib.Omega.{arith}
 use lib.ListN.{length}
 use Rattle.answer.specs.Answer.{numberOf}
 use Rattle.join_rule.specs.Apply.{found}
+use Rattle.join_groups.proofs.Entries.{rest-less, whole-most}
 use Rattle.join_list.proofs.Pairing.{done-none}
 use Rattle.join_list.proofs.Going.{Going, going-start, going-end, going-stops, going-on}
-use Rattle.join_list.proofs.Going.{rest-less, found-stated, stated-same, whole-most}
+use Rattle.join_list.proofs.Going.{found-stated, stated-same}
 use Rattle.join_list.proofs.each.join_each.Statement.{statement}
 use Rattle.join_list.proofs.each.join_each.Tie as tie
 
@@ -116,7 +117,7 @@ part-rest-end c = le-refl _
 add-place : tie.Need-add-place Inv-loop μ-loop
 add-place c =
     let l = looped (joined (c .before)) in
-    omega (arith, l .loop .inv .long, whole-most _ _ (start l .pre .0))
+    omega (arith, l .loop .inv .entries .long, whole-most _ _ (start l .pre .0))
 
 loop-less : tie.Need-loop-less Inv-loop μ-loop
 loop-less c = let i = tested (joined (c .before)) in rest-less (i .before .loop .rest .now) (more i)
