@@ -27,10 +27,9 @@ use Rattle.check_answer.proofs.Given.{given-number, given-work, accepted-within
 use Rattle.check_answer.proofs.Given.{accepted-work, accepted-on, refused-on}
 use Rattle.join_answer.specs.Asked.{asked}
 use Rattle.join_rule.specs.Apply.{pair, Ready}
-use Rattle.join_rule.proofs.Readiness.{drawn-ready}
+use Rattle.join_rule.proofs.Readiness.{drawn-ready, rest-cleared}
 use Rattle.join_call.specs.Faithful.{Faithful}
 use Rattle.join_call.proofs.Afresh.{joined-faithful}
-use Rattle.join_list.proofs.Ending.{rest-cleared}
 use Rattle.join_call.proofs.Cleared.{cleared-twice, cleared-stated}
 
 -- Joining a and b in the tables t after a check that answered v and left the work tables vs, where the names are answered by o:

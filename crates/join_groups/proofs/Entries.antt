@@ -1,6 +1,6 @@
 -- Going through a list, entry by entry.
 --   Going w h l t u r i == after i entries of the list l, which led from the tables t to the tables u, the names r are left
-use mathlib.Core.Path.{_≡_, refl, sym, _∙_}
+use mathlib.Core.Path.{_≡_, refl}
 use mathlib.Core.Bool.{Bool, true, false, cond}
 use mathlib.Core.List.{List, [], _∷_}
 use mathlib.Core.Logic.{_≢_}
@@ -16,8 +16,7 @@ use Rattle.laws.proofs.Test.{and-right}
 use Rattle.paper.specs.Drawing.{Tables}
 use Rattle.paper.specs.Joining.{joined}
 use Rattle.paper.specs.Refusal.{pairTests}
-use Rattle.paper.specs.Order.{pairs, whole, unless, joins}
-use Rattle.join_groups.specs.Group.{stop}
+use Rattle.paper.specs.Order.{pairs, whole, unless, joins, stop}
 
 pub record Going (w h : ℕ) (l : List ℕ) (t u : Tables) (r : List ℕ) (i : ℕ) : Type 0 where
   pub on : joins w h i (pairs r) u ≡ joins w h 0 (pairs l) t

@@ -2,13 +2,13 @@
 --   groupOf l v     == the name of the group that the region named v is of, by the first cells l
 --   Planted i t     == t is a forest of some labels, and i is one of its nodes
 --   Found m l i t r == t is a forest of the labels l, and r is the root of node i
-use mathlib.Core.Path.{_≡_, refl, sym, ap, _∙_}
+use mathlib.Core.Path.{_≡_, refl}
 use mathlib.Core.List.{List}
 use mathlib.Core.Logic.{_≢_}
 use Prim.Native.Nat.{ℕ, zero, suc, _+_, _-_, _≤_, _<_}
 use native.Mathlib.Omega.{arith}
 use lib.ListN.{length, getD}
-use Rattle.table_forest.specs.Forest.{Forest, Grown, Planted, Found}
+use Rattle.table_forest.specs.Forest.{Forest, Planted, Found}
 use Rattle.join_groups.specs.Group.{groupOf}
 
 pub group-outside : (l : List ℕ) (v : ℕ) → v ≡ 0 → 0 ≡ groupOf l v

@@ -1,9 +1,9 @@
 -- Groups of cells stand for a drawing: at the start its own regions, and after each join those that it leaves.
 --   groupOf l v     == the name of the group that the region named v is of, by the first cells l
 --   Grouped w h s l u == the drawing u is that of the groups l, made of the regions of a drawing with the sides s
-use mathlib.Core.Path.{_≡_, refl, sym, ap, _∙_, fun-ext}
+use mathlib.Core.Path.{_≡_, refl, sym, ap, _∙_}
 use mathlib.Core.List.{List, [], _∷_, map}
-use mathlib.Core.Logic.{_≢_, _⊎_, ⊎-elim}
+use mathlib.Core.Logic.{_⊎_, ⊎-elim}
 use Prim.Native.Nat.{ℕ, zero, suc, _+_, _-_, _*_, _<_, _≤_, zero-le}
 use native.Mathlib.Decide.{decLt}
 use native.Mathlib.Omega.{arith}
@@ -52,7 +52,7 @@ module _ (w h : ℕ) (q : List ℕ) where
   abbrev l : List ℕ
   l = least (w * h) (west w q) (north w q)
 
-  first-long : length l ≡ w * h
+  pub first-long : length l ≡ w * h
   unfolding names
   first-long = sym (length-map l suc) ∙ length-names w h q
 

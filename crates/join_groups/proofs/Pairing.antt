@@ -8,14 +8,13 @@ use mathlib.Core.Logic.{_≢_}
 use Prim.Native.Nat.{ℕ, zero, suc, _+_, _*_, _-_, _≤_, _<_}
 use native.Mathlib.Decide.{ℕ-discrete}
 use native.Mathlib.Omega.{arith}
-use borrow.Author.Tests.{not-false}
 use lib.ListN.{length, getD}
 use Rattle.laws.specs.First.{firstFailed}
 use Rattle.laws.specs.Least.{lower}
 use Rattle.laws.proofs.Least.{lower-comm}
-use Rattle.point_darts.specs.Dart.{mark, slots}
+use Rattle.point_darts.specs.Dart.{mark}
 use Rattle.paper.specs.Name.{names}
-use Rattle.paper.specs.Total.{cellsOf, total, totals}
+use Rattle.paper.specs.Total.{cellsOf, total}
 use Rattle.paper.specs.Drawing.{Tables, drawn, drawing}
 use Rattle.paper.specs.Joining.{at, added, joined}
 use Rattle.paper.specs.Refusal.{used, adjoin, nameTests, pairTests}
@@ -25,14 +24,14 @@ use Rattle.paper_laws.proofs.Added.{cells-most, total-used, total-unused, at-to
 use Rattle.paper_laws.proofs.InUse.{used-cells, pair-cells}
 use Rattle.answer.specs.declared.Answer.{Answer}
 use Rattle.answer.specs.Answer.{numberOf}
+use Rattle.table_entries.proofs.Entries.{on-no-mark}
 use Rattle.table_forest.specs.Forest.{Forest}
 use Rattle.region_darts.specs.Lists.{Of, Lists}
 use Rattle.join_answer.specs.Asked.{asked}
 use Rattle.join_answer.proofs.Asking.{asked-named, asked-apart, asked-done}
 use Rattle.join_groups.specs.Group.{groupOf, Standing}
-use Rattle.join_groups.proofs.Walking.{on-no-mark}
 use Rattle.join_groups.proofs.Grouping.{group-lower, grouped-joined}
-use Rattle.join_groups.proofs.Standing.{Chosen, passed-chosen, room, standing-drawn, name-below, first-cell, some-dart, side-long}
+use Rattle.join_groups.proofs.Standing.{Chosen, room, standing-drawn, name-below, first-cell, some-dart, side-long}
 
 pub done-none : numberOf Answer.Done ≡ 0
 unfolding numberOf

@@ -3,35 +3,38 @@
 --   Stopped ..      == so they do where a list stops
 --   Regrouped ..    == the drawing where a list stops is that of some labels, whose names stand at the front of a table
 use mathlib.Core.Path.{_≡_, refl, sym, ap, subst, _∙_}
-use mathlib.Core.Bool.{Bool, true}
+use mathlib.Core.Bool.{true}
 use mathlib.Core.List.{List, map}
-use mathlib.Core.Logic.{_≢_, _⊎_, ⊎-elim}
-use Prim.Native.Nat.{ℕ, zero, suc, _+_, _*_, _≤_, _<_}
+use mathlib.Core.Logic.{_⊎_, ⊎-elim}
+use Prim.Native.Nat.{ℕ, suc, _+_, _*_, _-_, _≤_, _<_}
 use native.Mathlib.Omega.{arith}
 use lib.ListN.{length, getD, take}
+use lib.Seq.{ext-getD}
+use Rattle.laws.specs.Table.{table}
 use Rattle.laws.specs.Least.{least}
+use Rattle.laws.proofs.Table.{length-table, getD-table}
 use Rattle.sheet_size.specs.Size.{within}
 use Rattle.point_darts.specs.Dart.{mark, slots}
 use Rattle.paper.specs.Name.{west, north, names}
 use Rattle.paper.specs.Level.{side, border, level, plain}
-use Rattle.paper.specs.Total.{cellsOf, totals}
+use Rattle.paper.specs.Total.{cellsOf}
 use Rattle.paper.specs.Drawing.{Tables, drawn, drawing, Drawn, recovered}
 use Rattle.paper.specs.Joining.{at, on}
 use Rattle.paper.specs.Refusal.{sized, stated}
-use Rattle.paper.specs.Order.{pairs, joins}
-use Rattle.paper_laws.proofs.Name.{names-names}
-use Rattle.paper_laws.proofs.IsDrawing.{recovered-names}
+use Rattle.paper.specs.Order.{stop}
+use Rattle.paper_laws.proofs.Name.{name-range, names-names}
+use Rattle.paper_laws.proofs.IsDrawing.{length-recovered, recovered-names}
 use Rattle.paper_laws.proofs.Marks.{within-fits, cells-slots}
 use Rattle.paper_laws.proofs.Enclosure.{Used, side-used, side-below}
 use Rattle.paper_laws.proofs.Drawn.{sides-on, drawn-side1}
 use Rattle.paper_laws.proofs.Added.{length-totals}
 use Rattle.table_lengths.specs.Given.{tables, works}
-use Rattle.table_forest.specs.Forest.{Forest, Grown}
+use Rattle.table_forest.specs.Forest.{Forest}
 use Rattle.region_names.specs.Frame.{Down, surround, framed}
 use Rattle.region_darts.specs.Lists.{Lists}
 use Rattle.region_darts.proofs.Group.{lists-as}
-use Rattle.join_groups.specs.Group.{groupOf, stop, Grouped, Standing, Stopped, Regrouped}
-use Rattle.join_groups.proofs.Grouping.{grouped-first, first-forest, first-name}
+use Rattle.join_groups.specs.Group.{groupOf, Standing, Stopped, Regrouped}
+use Rattle.join_groups.proofs.Grouping.{grouped-first, first-long, first-forest, first-name}
 
 module _ (w h : ℕ) (e : within w h ≡ true) (t : Tables) (d : Drawn w h t) (s : List ℕ) (q : t .side1 ≡ s) where
   room : slots w h ≤ mark
@@ -78,15 +81,42 @@ module _ (w h : ℕ) (e : within w h ≡ true) (t : Tables) (d : Drawn w h t) (s
           ∙ z .own in
           rw (z .bears) a
 
+  -- the names less one are the first cells
+  pub names-some : (r : List ℕ) → r ≡ recovered w h s → (i : ℕ) → i < length r → 0 < getD r i 0
+  names-some r q i b =
+      let z : i < w * h = rw (q, length-recovered) at b in
+      let m = name-range w h (d .labels) i z in
+      rw (q, told) (omega (arith, m))
+
+  first-cells : (r g : List ℕ) → r ≡ recovered w h s → g ≡ table (length r) (λ i. getD r i 0 - 1) → g ≡ first
+  first-cells r g q z =
+      z ∙ ap (λ u. table (length u) (λ i. getD u i 0 - 1)) q
+      ∙ ext-getD 0 (table (length c) (λ i. getD c i 0 - 1)) first
+      (length-table (length c) (λ i. getD c i 0 - 1) ∙ long ∙ sym (first-long w h c))
+      (λ i b.
+      let l : i < length c = rw length-table at b in
+      let m : i < w * h = omega (arith, l, long) in
+      let p : getD c i 0 ≡ suc (getD first i 0) = ap (λ u. getD u i 0) again ∙ first-name w h c i m in
+      getD-table (length c) (λ i. getD c i 0 - 1) i 0 l ∙ omega (arith, p))
+    where
+      c : List ℕ
+      c = recovered w h s
+
+      long : length c ≡ w * h
+      long = length-recovered w h s
+
+      again : c ≡ names w h c
+      again = told ∙ sym (ap (names w h) told ∙ names-names w h (d .labels))
+
   counted : length (t .cells) ≡ w * h + 1
   unfolding drawing drawn
   counted = rw (← d .same) (length-totals w h (cellsOf w h n) (cellsOf w h n))
 
-  pub standing-first : length s ≡ slots w h → (r g l f k : List ℕ) → r ≡ recovered w h s → g ≡ least (w * h) (west w r) (north w r)
+  pub standing-first : length s ≡ slots w h → (r g l f k : List ℕ) → r ≡ recovered w h s → g ≡ table (length r) (λ i. getD r i 0 - 1)
       → length g ≡ w * h → length l ≡ slots w h → length f ≡ slots w h → length k ≡ slots w h → Lists s (λ v. v) l f k
       → Standing w h s (t .cells) g l f k t
   standing-first z r g l f k i j lg ll lf lk p =
-      let b : g ≡ first = j ∙ ap (λ u. least (w * h) (west w u) (north w u)) i in
+      let b = first-cells r g i j in
       record {
         size = e;
         sided = z;

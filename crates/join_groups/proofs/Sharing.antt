@@ -5,13 +5,12 @@
 use mathlib.Core.Path.{_≡_, refl, sym, ap, _∙_}
 use mathlib.Core.Bool.{Bool, true, false, _&&_, _||_}
 use mathlib.Core.List.{List}
-use mathlib.Core.Logic.{_≢_, _⊎_, inl, inr, ⊎-elim}
-use Prim.Native.Nat.{ℕ, zero, suc, _+_, _*_, _-_, _≤_, _<_}
+use mathlib.Core.Logic.{_≢_, _⊎_, ⊎-elim}
+use Prim.Native.Nat.{ℕ, suc, _*_, _-_, _≤_, _<_}
 use native.Mathlib.Omega.{arith}
 use lib.Dec.{eqb}
 use lib.ListN.{length, getD, length-map}
-use borrow.Author.Tests.{eqb-true, eq-eqb}
-use Rattle.laws.proofs.Test.{clash, and-true, and-left, and-right, or-either}
+use borrow.Author.Tests.{eq-eqb}
 use Rattle.laws.proofs.Table.{getD-map, some-found, found-some, some-agree}
 use Rattle.laws.proofs.Count.{count-le}
 use Rattle.point_darts.specs.Dart.{mark, slots, reversal}
@@ -23,33 +22,16 @@ use Rattle.paper.specs.Drawing.{Tables, drawn, drawing}
 use Rattle.paper.specs.Joining.{at, on, between, shared}
 use Rattle.paper.specs.Refusal.{adjoin}
 use Rattle.paper_laws.proofs.Name.{length-names}
-use Rattle.paper_laws.proofs.Marks.{at-free}
 use Rattle.paper_laws.proofs.Sheet.{side-reversal, border-line, border-below, border-back, differs-border}
 use Rattle.paper_laws.proofs.Fewer.{fewer-side, fewer-lines}
 use Rattle.paper_laws.proofs.First.{top-side-on, top-side-own}
 use Rattle.paper_laws.proofs.Enclosure.{side-below}
 use Rattle.paper_laws.proofs.Drawn.{sides-on, drawn-side1}
-use Rattle.region_darts.specs.Lists.{along, Reached, Of, size, Lists}
+use Rattle.paper_laws.proofs.Neighbour.{between-either, side-line}
+use Rattle.table_entries.proofs.Entries.{on-below}
+use Rattle.region_darts.specs.Lists.{along, Of, size, Lists}
 use Rattle.region_darts.proofs.Along.{along-of}
 use Rattle.join_groups.specs.Group.{groupOf, faced, Met, Unmet, Walkable, Grouped}
-use Rattle.join_groups.proofs.Walking.{on-no-mark, on-below}
-
--- TEMPORARY
-between-either : (a b x y : ℕ) → between a b x y ≡ true → ((x ≡ a) × (y ≡ b)) ⊎ ((x ≡ b) × (y ≡ a))
-unfolding between
-between-either a b x y e =
-    ⊎-elim
-    (λ p. inl (eqb-true x a (and-left (eqb x a) (eqb y b) p), eqb-true y b (and-right (eqb x a) (eqb y b) p)))
-    (λ p. inr (eqb-true x b (and-left (eqb x b) (eqb y a) p), eqb-true y a (and-right (eqb x b) (eqb y a) p)))
-    (or-either (eqb x a && eqb y b) (eqb x b && eqb y a) e)
-
-side-line : (w h : ℕ) (n : List ℕ) (d v : ℕ) → v ≢ mark → at (drawn w h n .side1) d ≡ v → border w h n d ≡ true
-unfolding drawn level plain
-side-line w h n d v z e = go (border w h n d) refl
-  where
-    go : (b : Bool) → border w h n d ≡ b → b ≡ true
-    go true q = refl
-    go false q = absurd (z (sym e ∙ at-free w h (border w h n) (side w h n) (border-below w h n) d q))
 
 pub adjoin-swap : (w h : ℕ) (s : List ℕ) (a b : ℕ) → adjoin w h s a b ≡ adjoin w h s b a
 unfolding adjoin shared between
@@ -99,7 +81,7 @@ module _ (w h : ℕ) (room : slots w h ≤ mark) (s l : List ℕ) (u : Tables) (
 
   group-on : (d v : ℕ) → v ≢ mark → at (u .side1) d ≡ v → border w h m d ≡ true
   unfolding drawing
-  group-on d v z e = side-line w h m d v z (rw (← g .same) at e)
+  group-on d v z e = side-line w h (g .after) room d v z (rw (← g .same) at e)
 
   -- a line of the groups has these on its two hands
   line-of : (d : ℕ) → border w h m d ≡ true → Of s group (side w h m d) d

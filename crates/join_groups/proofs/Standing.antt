@@ -3,9 +3,9 @@
 --                      of the darts of each group
 --   Chosen c a b    == by the cells c the names a and b are those of two regions, neither the outside
 use mathlib.Core.Path.{_≡_, refl, sym, ap, _∙_}
-use mathlib.Core.Bool.{Bool, true, false, not, _&&_, _||_, true≢false}
+use mathlib.Core.Bool.{Bool, true, false, _||_}
 use mathlib.Core.List.{List}
-use mathlib.Core.Logic.{_≢_, _⊎_, inl, inr, ⊎-elim}
+use mathlib.Core.Logic.{_≢_}
 use Prim.Native.Nat.{ℕ, zero, suc, _+_, _*_, _-_, _≤_, _<_}
 use native.Mathlib.Omega.{arith}
 use lib.Dec.{eqb, lit<}
@@ -13,8 +13,8 @@ use lib.ListN.{length, getD}
 use borrow.Author.Tests.{eqb-false, not-true}
 use Rattle.laws.specs.First.{firstFailed}
 use Rattle.laws.proofs.First.{all-passed}
-use Rattle.laws.proofs.Test.{and-left, and-right}
-use Rattle.point_darts.specs.Dart.{mark, points, slots}
+use Rattle.laws.proofs.Test.{and-left, and-right, or-neither}
+use Rattle.point_darts.specs.Dart.{mark, slots}
 use Rattle.point_darts.proofs.Fit.{row-fit, dart-fits}
 use Rattle.paper.specs.Name.{names}
 use Rattle.paper.specs.Enclosure.{topSide}
@@ -24,22 +24,18 @@ use Rattle.paper.specs.Refusal.{used, nameTests, adjoin}
 use Rattle.paper_laws.proofs.Marks.{within-fits, cells-slots}
 use Rattle.paper_laws.proofs.InUse.{used-cells}
 use Rattle.paper_laws.proofs.Enclosure.{parents-used}
+use Rattle.table_entries.proofs.Entries.{on-no-mark, on-below}
 use Rattle.table_forest.specs.Forest.{Forest, Grown}
 use Rattle.region_darts.specs.Lists.{Of}
 use Rattle.join_answer.proofs.Asking.{names-numbered}
 use Rattle.laws.proofs.Table.{getD-map}
-use Rattle.join_groups.specs.Group.{groupOf, Met, Unmet, Walkable, Grouped, Standing}
-use Rattle.join_groups.proofs.Walking.{on-no-mark, on-below}
-use Rattle.join_groups.proofs.Sharing.{sized, group-dart, list-walkable, met-shared, unmet-apart, adjoin-swap}
+use Rattle.join_groups.specs.Group.{groupOf, Met, Unmet, Walkable, Standing}
+use Rattle.join_groups.proofs.Sharing.{sized, group-dart, list-walkable, met-shared, unmet-apart}
 
 pub record Chosen (c : List ℕ) (a b : ℕ) : Type 0 where
   pub inner : (a ≢ 0) × (b ≢ 0)
   pub apart : a ≢ b
   pub here : (used c a ≡ true) × (used c b ≡ true)
-
-or-neither : (p q : Bool) → (p || q) ≡ false → (p ≡ false) × (q ≡ false)
-or-neither true q e = absurd (true≢false e)
-or-neither false q e = (refl, e)
 
 pub passed-chosen : (c : List ℕ) (a b : ℕ) → firstFailed (nameTests c a b) ≡ 0 → Chosen c a b
 unfolding nameTests

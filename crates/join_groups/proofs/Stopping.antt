@@ -11,8 +11,8 @@ use Rattle.laws.specs.First.{firstFailed}
 use Rattle.paper.specs.Drawing.{Tables}
 use Rattle.paper.specs.Joining.{joined}
 use Rattle.paper.specs.Refusal.{pairTests}
-use Rattle.paper.specs.Order.{pairs, joins}
-use Rattle.join_groups.specs.Group.{stop, Standing, Stopped}
+use Rattle.paper.specs.Order.{joins}
+use Rattle.join_groups.specs.Group.{Standing, Stopped}
 use Rattle.join_groups.proofs.Entries.{Going, going-start, going-end, going-stops, going-on}
 
 pub record Stood (w h : ℕ) (l : List ℕ) (t₀ : Tables) (s c n t f e r : List ℕ) (i : ℕ) : Type 0 where

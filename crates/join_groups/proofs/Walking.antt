@@ -7,33 +7,18 @@
 use mathlib.Core.Path.{_≡_, refl, sym, ap, _∙_}
 use mathlib.Core.Bool.{true}
 use mathlib.Core.List.{List}
-use mathlib.Core.Logic.{_≢_, _⊎_, inl, inr, ⊎-elim}
-use Prim.Native.Nat.{ℕ, zero, suc, _+_, _*_, _-_, _≤_, _<_}
+use mathlib.Core.Logic.{_≢_}
+use Prim.Native.Nat.{ℕ, suc, _+_, _-_, _≤_, _<_}
 use native.Mathlib.Nat.{le-refl}
 use native.Mathlib.Decide.{decLt}
 use native.Mathlib.Omega.{arith}
-use lib.Dec.{eqb}
 use lib.ListN.{length}
-use borrow.Author.Tests.{eqb-false, not-true}
 use Rattle.point_darts.specs.Dart.{mark, reversal}
 use Rattle.paper.specs.Joining.{at, on}
-use Rattle.table_entries.proofs.Entries.{at-end}
 use Rattle.table_forest.specs.Forest.{Forest, Grown}
 use Rattle.region_darts.specs.Lists.{along}
 use Rattle.region_darts.proofs.Along.{along-next, along-add, along-mark}
 use Rattle.join_groups.specs.Group.{groupOf, faced, Met, Unmet, Walkable}
-
--- TEMPORARY on-below
-pub on-no-mark : (t : List ℕ) (d : ℕ) → on t d ≡ true → at t d ≢ mark
-unfolding on
-on-no-mark t d e = eqb-false (at t d) mark (not-true (eqb (at t d) mark) e)
-
-pub on-below : (t : List ℕ) (d : ℕ) → on t d ≡ true → d < length t
-on-below t d e = go (decLt d (length t))
-  where
-    go : Dec (d < length t) → d < length t
-    go (yes b) = b
-    go (no b) = let h : length t ≤ d = omega arith in absurd (on-no-mark t d e (at-end t d h))
 
 -- past the mark is the mark
 along-past : (t : List ℕ) → length t ≤ mark → (k d i : ℕ) → along t k d ≡ mark → along t (k + i) d ≡ mark

@@ -2,7 +2,6 @@
 --   groupOf l v     == the name of the group that the region named v is of, where l has for each cell the first cell of its group; the
 --                      outside stays
 --   Open w h t ws   == the size is one, the tables t are a drawing of it, and these and the work tables ws have the stated lengths
---   stop k i t      == a list stops with the number k after i joins, with the tables t
 --   Grouped w h s l u == the drawing u is that of the groups l, made of the regions of a drawing with the sides s
 --   faced w s l d   == the group on the left hand of dart d, by the sides s
 --   Met .., Unmet .. == a dart of the list that starts at f, in the table t, has the group y on its left hand; none of its first m has
@@ -25,7 +24,7 @@ use Rattle.paper.specs.Name.{names}
 use Rattle.paper.specs.Drawing.{Tables, drawing, Drawn}
 use Rattle.paper.specs.Joining.{at, on}
 use Rattle.paper.specs.Refusal.{stated}
-use Rattle.paper.specs.Order.{Stop, pairs, joins}
+use Rattle.paper.specs.Order.{pairs, stop, joins}
 use Rattle.table_forest.specs.Forest.{Forest}
 use Rattle.region_names.specs.Frame.{surround, framed}
 use Rattle.region_darts.specs.Lists.{along, Lists}
@@ -62,9 +61,6 @@ pub record Open (w h : ℕ) (t : Tables) (ws : List (List ℕ)) : Type 0 where
   pub size : within w h ≡ true
   pub sizes : stated w h t ws ≡ true
   pub drawn : Drawn w h t
-
-abbrev pub stop : ℕ → ℕ → Tables → Stop
-stop k i t = record { number = k; place = i; tables = t }
 
 pub record Standing (w h : ℕ) (s c n t f e : List ℕ) (u : Tables) : Type 0 where
   pub size : within w h ≡ true

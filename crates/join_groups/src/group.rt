@@ -4,24 +4,39 @@ use check_call::labels;
 use drawing::draw;
 use point_darts::dart;
 use region_darts::list;
-use region_names::cells;
 use region_names::frame;
 use table_forest::nodes;
 ghost use mathlib.Core.Path.{_≡_};
 ghost use mathlib.Core.Bool.{true};
 ghost use mathlib.Core.List.{List, map};
-ghost use Prim.Native.Nat.{ℕ, suc, _*_};
-ghost use lib.ListN.{length, take};
+ghost use Prim.Native.Nat.{ℕ, suc, _*_, _-_, _<_};
+ghost use lib.ListN.{length, getD, take};
+ghost use Rattle.laws.specs.Table.{table};
 ghost use Rattle.sheet_size.specs.Size.{within};
 ghost use Rattle.point_darts.specs.Dart.{slots};
 ghost use Rattle.paper.specs.Drawing.{Tables, Drawn};
 ghost use Rattle.paper.specs.Refusal.{cleared};
-ghost use Rattle.paper.specs.Order.{pairs, whole, joins};
+ghost use Rattle.paper.specs.Order.{pairs, whole, joins, stop};
 ghost use Rattle.table_lengths.specs.Given.{tables, works};
 ghost use Rattle.table_forest.specs.Forest.{Forest, Grown};
 ghost use Rattle.answer.specs.Answer.{numberOf};
 ghost use Rattle.region_names.specs.Frame.{surround, framed};
-ghost use Rattle.join_groups.specs.Group.{stop, Open, Standing, Regrouped};
+ghost use Rattle.join_groups.specs.Group.{Open, Standing, Regrouped};
+
+// Takes one from each entry, so that a name gives way to the first cell of its region.
+fn take_one(names: &mut [u16])
+    requires { ⌜ ((i : ℕ) → i < length (now names) → 0 < getD (now names) i 0) ⌝ }
+    ensures { λ _. ⌜
+        now (names .exit) ≡ table (length (now (names .entry))) (λ i. getD (now (names .entry)) i 0 - 1)
+        ⌝ }
+{
+    let n = names.len();
+    let mut i = 0;
+    while i < n {
+        names[i] -= 1;
+        i += 1;
+    }
+}
 
 // At the start the regions of the drawing are the groups: the first cell of each cell's region, and the darts of each in a list.
 fn start(
@@ -46,9 +61,8 @@ fn start(
         t)
         ⌝ }
 {
-    let n = (width * height) as usize;
-    labels::recover(width, height, side, &mut list[..n]);
-    cells::first_cells(width, height, &list[..n], groups);
+    labels::recover(width, height, side, groups);
+    take_one(groups);
     list::list_sides(side, list, first, last);
 }
 

@@ -14,8 +14,8 @@ use Rattle.paper.specs.Name.{names}
 use Rattle.paper.specs.Enclosure.{parents}
 use Rattle.paper.specs.Drawing.{Tables, drawing, Drawn}
 use Rattle.paper.specs.Joining.{at, on, joined}
-use Rattle.paper.specs.Refusal.{cleared, pairTests}
-use Rattle.paper.specs.Order.{Stop, pairs, unless, joins, placed}
+use Rattle.paper.specs.Refusal.{pairTests}
+use Rattle.paper.specs.Order.{Stop, pairs, unless, joins, placed, stop}
 use Rattle.paper_laws.proofs.Marks.{within-fits, names-side-small}
 use Rattle.paper_laws.proofs.Joined.{parents-drawn}
 use Rattle.paper_laws.proofs.Order.{pair-numbered}
@@ -26,7 +26,7 @@ use Rattle.join_rule.specs.Apply.{pair, found}
 use Rattle.join_rule.proofs.Readiness.{stated-pair}
 use Rattle.join_list.specs.declared.each.Listed.{Listed}
 use Rattle.join_list.specs.Answer.{listNumber, listValues}
-use Rattle.join_groups.specs.Group.{stop, Open}
+use Rattle.join_groups.specs.Group.{Open}
 use Rattle.join_list.specs.Each.{Left, Ended}
 
 -- The answer.
@@ -107,16 +107,5 @@ module _ (w h : ℕ) (x s y o p c e b l : List ℕ) (k : Open w h (tables x s y 
     all-ended = stop-ended n i (tables x₁ s₁ y₁ o₁ p₁ c₁ e₁) (joins w h 0 (pairs ns) (tables x s y o p c e)) stops
 
 -- Two work tables, the first of four.
-module _ (a b c d : List ℕ) where
-  pub open-pair : (w h : ℕ) (t : Tables) → Open w h t (works a b c d) → Open w h t (pair a b)
-  open-pair w h t o = record { size = o .size; sizes = stated-pair w h t a b c d (o .sizes); drawn = o .drawn }
-
-  -- where four are cleared, so are the first two; and all four, where these are cleared once more
-  module _ (e : works a b c d ≡ cleared (works a b c d)) where
-    pub front-cleared : pair a b ≡ cleared (pair a b)
-    unfolding cleared
-    front-cleared = cc
-
-    pub rest-cleared : (x y : List ℕ) → pair x y ≡ cleared (pair a b) → works x y c d ≡ cleared (works a b c d)
-    unfolding cleared
-    rest-cleared x y f = cc
+pub open-pair : (w h : ℕ) (t : Tables) (a b c d : List ℕ) → Open w h t (works a b c d) → Open w h t (pair a b)
+open-pair w h t a b c d o = record { size = o .size; sizes = stated-pair w h t a b c d (o .sizes); drawn = o .drawn }

@@ -15,13 +15,13 @@ use Rattle.paper.specs.Enclosure.{parent, parents}
 use Rattle.paper.specs.Drawing.{Tables}
 use Rattle.paper.specs.Joining.{at, on, joined}
 use Rattle.paper.specs.Refusal.{sized, stated, pairTests}
-use Rattle.paper.specs.Order.{pairs, joins}
+use Rattle.paper.specs.Order.{pairs, joins, stop}
 use Rattle.paper_laws.proofs.Marks.{within-fits}
 use Rattle.paper_laws.proofs.Order.{passed-joinable}
 use Rattle.paper_laws.proofs.Theorem.{joined-again}
 use Rattle.table_lengths.proofs.Tested.{stated-names, stated-slots}
 use Rattle.join_rule.specs.Apply.{pair, found, Topped}
-use Rattle.join_groups.specs.Group.{stop, Open}
+use Rattle.join_groups.specs.Group.{Open}
 use Rattle.join_groups.proofs.Entries as Entries
 use Rattle.join_list.specs.Each.{Left}
 

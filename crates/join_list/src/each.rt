@@ -14,12 +14,12 @@ ghost use Rattle.point_darts.specs.Dart.{slots};
 ghost use Rattle.paper.specs.Enclosure.{parents};
 ghost use Rattle.paper.specs.Joining.{at, on};
 ghost use Rattle.paper.specs.Refusal.{cleared};
-ghost use Rattle.paper.specs.Order.{pairs, whole, joins, placed};
+ghost use Rattle.paper.specs.Order.{pairs, whole, joins, placed, stop};
 ghost use Rattle.table_lengths.specs.Given.{tables, works};
 ghost use Rattle.answer.specs.Answer.{numberOf};
 ghost use Rattle.join_rule.specs.Apply.{pair, found, Topped};
 ghost use Rattle.join_list.specs.Answer.{listNumber, listValues};
-ghost use Rattle.join_groups.specs.Group.{stop, Open};
+ghost use Rattle.join_groups.specs.Group.{Open};
 ghost use Rattle.join_list.specs.Each.{Left, Ended};
 
 // What joining by a list answers.
@@ -187,7 +187,7 @@ fn join_short(
 }
 
 // A list of so many names or more is joined as groups: it costs little more than a drawing, which is less than so many joins.
-const LONG: usize = 8;
+const LONG: usize = 20;
 
 // Joins by a list of names, two by two, in the seven tables of a drawing: one entry after another, up to the first that is refused.
 // The work tables are all 0, and are left so.

@@ -5,12 +5,12 @@ use mathlib.Core.Path.{_≡_, refl, sym, _∙_, ap, fun-ext}
 use mathlib.Core.Bool.{Bool, true, false, cond, not, _&&_}
 use mathlib.Core.List.{List}
 use mathlib.Core.Logic.{_≢_, ⊎-elim}
-use Prim.Native.Nat.{ℕ, _≤_, _<_}
+use Prim.Native.Nat.{ℕ, _<_}
 use native.Mathlib.Decide.{decLt}
 use native.Mathlib.Omega.{arith}
 use lib.Dec.{eqb}
 use lib.ListN.{length}
-use borrow.Author.Tests.{eq-eqb, ne-eqb, eqb-false, not-true}
+use borrow.Author.Tests.{eq-eqb, ne-eqb}
 use Rattle.laws.specs.Least.{lower}
 use Rattle.laws.proofs.Least.{lower-either}
 use Rattle.laws.proofs.Test.{clash, and-left}
@@ -18,19 +18,7 @@ use Rattle.point_darts.specs.Dart.{mark, slots}
 use Rattle.paper.specs.Level.{marked}
 use Rattle.paper.specs.Joining.{Links, at, on, chase, removed}
 use Rattle.paper_laws.proofs.Marks.{at-below, at-past, at-marked}
-use Rattle.table_entries.proofs.Entries.{at-out, on-mark}
-
-module _ (t : List ℕ) (d : ℕ) (e : on t d ≡ true) where
-  pub on-no-mark : at t d ≢ mark
-  unfolding on
-  on-no-mark = eqb-false (at t d) mark (not-true (eqb (at t d) mark) e)
-
-  pub on-below : d < length t
-  on-below = go (decLt d (length t))
-    where
-      go : Dec (d < length t) → d < length t
-      go (yes b) = b
-      go (no b) = let h : length t ≤ d = omega arith in absurd (on-no-mark (sym (at-out t d h)))
+use Rattle.table_entries.proofs.Entries.{on-mark, on-no-mark, on-below}
 
 module _ (w h : ℕ) where
   -- an entry of a marked table is one that is held

@@ -15,19 +15,20 @@ use Rattle.paper.specs.Level.{side, border, next, plain, level, tops}
 use Rattle.paper.specs.Enclosure.{parent, parents}
 use Rattle.paper.specs.Drawing.{Tables, drawn, drawing, Drawn}
 use Rattle.paper.specs.Joining.{at, on, rest1, rest3}
-use Rattle.paper.specs.Refusal.{sized, stated, used}
+use Rattle.paper.specs.Refusal.{sized, stated, cleared, used}
 use Rattle.paper.specs.Sitting.{Joinable}
 use Rattle.paper_laws.proofs.Sheet.{border-below}
 use Rattle.paper_laws.proofs.Marks.{on-marked, cells-slots, within-fits, names-side-small}
 use Rattle.paper_laws.proofs.Still.{still-joined}
 use Rattle.paper_laws.proofs.Neighbour.{used-borne}
 use Rattle.paper_laws.proofs.Added.{totals-fit, totals-here, shared-twice, shared-least}
+use Rattle.table_entries.proofs.Entries.{on-below}
 use Rattle.table_lengths.specs.Given.{tables, works}
 use Rattle.table_lengths.proofs.Tested.{stated-names, stated-slots}
 use Rattle.join_shared.specs.Mapped.{Mapped, Bare}
 use Rattle.join_rule.specs.Sums.{Sums}
 use Rattle.join_rule.specs.Apply.{pair, found, Ready}
-use Rattle.join_rule.proofs.Fewer.{marked-held, on-below}
+use Rattle.join_rule.proofs.Fewer.{marked-held}
 use Rattle.join_rule.proofs.Mapping.{plain-mapped, curves-mapped, curves-bare}
 
 -- every line of a drawing has its sides
@@ -129,6 +130,16 @@ module _ (w h : ℕ) (t : Tables) (a b c d : List ℕ) where
         still = r .still;
         sums = r .sums;
       }
+
+-- where four are cleared, so are the first two; and all four, where these are cleared once more
+module _ (a b c d : List ℕ) (e : works a b c d ≡ cleared (works a b c d)) where
+  pub front-cleared : pair a b ≡ cleared (pair a b)
+  unfolding cleared
+  front-cleared = cc
+
+  pub rest-cleared : (x y : List ℕ) → pair x y ≡ cleared (pair a b) → works x y c d ≡ cleared (works a b c d)
+  unfolding cleared
+  rest-cleared x y f = cc
 
 -- The parents are not read, so they may be those that the sides tell.
 pub ready-found : (w h : ℕ) (x s y o p u v : List ℕ) (ws : List (List ℕ)) (i j : ℕ) → Ready w h (tables x s y o p u v) ws i j

@@ -1,14 +1,14 @@
 -- The darts with the sides a and b.
 --   shared s o a b d == dart d has the sides a and b, where o leads from a dart to its other
 --   bounds s a b d   == dart d has side a or side b
-use mathlib.Core.Path.{_≡_, refl, sym, _∙_, ap₂}
-use mathlib.Core.Bool.{Bool, true, false, _&&_, _||_, and-comm, or-comm}
+use mathlib.Core.Path.{_≡_, sym, _∙_, ap₂}
+use mathlib.Core.Bool.{false, _&&_, _||_, and-comm, or-comm}
 use mathlib.Core.List.{List}
 use mathlib.Core.Logic.{_≢_}
 use Prim.Native.Nat.{ℕ, _≤_}
 use lib.Dec.{eqb}
 use lib.ListN.{length}
-use Rattle.laws.proofs.Test.{clash}
+use Rattle.laws.proofs.Test.{or-neither}
 use Rattle.point_darts.specs.Dart.{mark}
 use Rattle.paper.specs.Joining.{at, between, shared}
 use Rattle.table_entries.proofs.Entries.{at-out}
@@ -23,10 +23,6 @@ shared-past s o a b p q d h =
     sym (shared-neither s o a b d mark e (λ r. p (sym r)) (λ r. q (sym r)))
 
 -- nor has a dart with neither of them
-or-neither : (p q : Bool) → (p || q) ≡ false → (p ≡ false) × (q ≡ false)
-or-neither true q e = clash refl e
-or-neither false q e = (refl, e)
-
 pub away-apart : (s : List ℕ) (o : ℕ → ℕ) (a b d : ℕ) → bounds s a b d ≡ false → shared s o a b d ≡ false
 unfolding bounds shared between
 away-apart s o a b d e =

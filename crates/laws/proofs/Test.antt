@@ -36,3 +36,7 @@ pub same-test : (a b : Bool) → (a ≡ true → b ≡ true) → (b ≡ true →
 same-test true b f g = sym (f refl)
 same-test false true f g = g refl
 same-test false false f g = refl
+
+pub or-neither : (p q : Bool) → (p || q) ≡ false → (p ≡ false) × (q ≡ false)
+or-neither true q e = clash refl e
+or-neither false q e = (refl, e)

@@ -6,13 +6,12 @@ use mathlib.Core.Bool.{Bool, true, false, and-false}
 use mathlib.Core.List.{List}
 use mathlib.Core.Logic.{_⊎_, inl, inr, _≢_}
 use Prim.Native.Nat.{ℕ, zero, suc, _+_, _*_, _≤_, _<_, zero-le}
-use native.Mathlib.Decide.{ℕ-discrete, decLt}
+use native.Mathlib.Decide.{ℕ-discrete}
 use native.Mathlib.Omega.{arith}
 use lib.Dec.{lit<}
 use lib.ListN.{length, getD, set, replicate, length-set, length-replicate}
-use lib.Seq.{getD-set-same, getD-set-other}
 use borrow.Author.Tests.{eq-eqb, ne-eqb}
-use Rattle.laws.proofs.Test.{clash, and-left}
+use Rattle.laws.proofs.Test.{and-left}
 use Rattle.laws.proofs.Walk.{run-stop}
 use Rattle.sheet_size.specs.Size.{within}
 use Rattle.point_darts.specs.Dart.{mark, points, slots, dart, point, direction, turned, reversal}
@@ -20,28 +19,11 @@ use Rattle.point_darts.proofs.Darts.{point-dart}
 use Rattle.point_darts.proofs.Fit.{points-fit, width-fit}
 use Rattle.paper.specs.Joining.{at, on}
 use Rattle.paper_laws.proofs.Marks.{length-marked, at-below, same-at}
-use Rattle.table_entries.proofs.Entries.{at-end, at-in, on-mark, on-entry}
+use Rattle.table_entries.proofs.Entries.{at-in, at-same, at-other, on-entry, on-below}
 use Rattle.level_curves.specs.Link.{ahead, keptAt, starts, lastOf, back, alongNext, alongOther}
 use Rattle.level_curves.specs.Link.{nextAlong, otherAlong, TwoWay, Linking}
 
--- An entry after a store.
-module _ (t : List ℕ) (d v : ℕ) where
-  at-set-own : d < length t → at (set t d v) d ≡ v
-  unfolding at
-  at-set-own b = getD-set-same t d v mark b
-
-  at-set-else : (s : ℕ) → s ≢ d → at (set t d v) s ≡ at t s
-  unfolding at
-  at-set-else s e = getD-set-other t d s v mark e
-
--- A dart of level 1 has a place in its table, and so has its next.
-pub on-below : (x : List ℕ) (d : ℕ) → on x d ≡ true → d < length x
-on-below x d e = go (decLt d (length x))
-  where
-    go : Dec (d < length x) → d < length x
-    go (yes b) = b
-    go (no b) = clash e (on-mark x d (at-end x d (omega arith)))
-
+-- The next of a dart of level 1 has a place in its table.
 module _ (x : List ℕ) (t : (d : ℕ) → on x d ≡ true → on x (at x d) ≡ true)
     (d a : ℕ) (e : on x d ≡ true) (q : a ≡ at x d) where
   pub after-on : on x a ≡ true
@@ -151,15 +133,15 @@ module _ {w n : ℕ} {x k : List ℕ} where
       go s c (yes r) =
           inl
           (rw r
-          (at-set-own y e u (omega (arith, l .nexts)) ∙ p, at-set-own o e v (omega (arith, l .others)) ∙ q))
-      go s c (no r) = rw (at-set-else y e u s r, at-set-else o e v s r) (l .entry s c)
+          (at-same y e u (omega (arith, l .nexts)) ∙ p, at-same o e v (omega (arith, l .others)) ∙ q))
+      go s c (no r) = rw (at-other y e u s r, at-other o e v s r) (l .entry s c)
 
   -- the dart at hand is given its links
   linking-own : {d : ℕ} {y o : List ℕ} → Linking w n x k d y o → (u v : ℕ) → d < n → u ≡ nextAlong n x k d
       → v ≡ otherAlong n x k d → Linking w n x k (d + 1) (set y d u) (set o d v)
   linking-own {d} {y} {o} l u v b p q =
       linking-past (linking-set l d u v b p q)
-      (λ _. (at-set-own y d u (omega (arith, l .nexts)) ∙ p, at-set-own o d v (omega (arith, l .others)) ∙ q))
+      (λ _. (at-same y d u (omega (arith, l .nexts)) ∙ p, at-same o d v (omega (arith, l .others)) ∙ q))
 
   -- the other end of a run is a dart
   pub end-below : {d : ℕ} {y o : List ℕ} → Linking w n x k d y o → d < n → starts x k d ≡ true → otherAlong n x k d < n

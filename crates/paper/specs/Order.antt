@@ -4,7 +4,8 @@
 --   whole w n       == a list of n names may be lent for a sheet of width w: it is even, and not too long
 --   Stop            == where a list stops: the number of the refusal, 0 for none; its place, from 0, which is how many entries were
 --                      joined; the tables after these joins
---   unless k i t s  == a stop with the number k at the place i, with the tables t; the stop s where the number is 0
+--   stop k i t      == a stop with the number k at the place i, with the tables t
+--   unless k i t s  == such a stop; the stop s where the number is 0
 --   joins w h i l t == where the entries l stop, the first of them at the place i, joined in the tables t
 --   listTests ..    == the tests of the call, in order, before the entries; n is the length of the list
 --   listStop ..     == where the call stops
@@ -38,12 +39,15 @@ pub record Stop : Type 0 where
   pub place : ℕ
   pub tables : Tables
 
+abbrev pub stop : ℕ → ℕ → Tables → Stop
+stop k i t = record { number = k; place = i; tables = t }
+
 unfoldable pub unless : ℕ → ℕ → Tables → Stop → Stop
 unless zero i t s = s
-unless (suc k) i t s = record { number = suc k; place = i; tables = t }
+unless (suc k) i t s = stop (suc k) i t
 
 unfoldable pub joins : ℕ → ℕ → ℕ → List (ℕ × ℕ) → Tables → Stop
-joins w h i [] t = record { number = 0; place = i; tables = t }
+joins w h i [] t = stop 0 i t
 joins w h i (e ∷ l) t =
     unless (firstFailed (pairTests w h (t .side1) (t .parent) (e .0) (e .1))) i t
     (joins w h (suc i) l (joined w h t (e .0) (e .1)))

@@ -30,7 +30,7 @@ use Rattle.paper_laws.proofs.Drawn.{drawn-side1}
 use Rattle.paper_laws.proofs.Share.{Shore, shore-swap, border-shore}
 use Rattle.paper_laws.proofs.Joined.{joined-drawn}
 
-between-either : (a b x y : ℕ) → between a b x y ≡ true → ((x ≡ a) × (y ≡ b)) ⊎ ((x ≡ b) × (y ≡ a))
+pub between-either : (a b x y : ℕ) → between a b x y ≡ true → ((x ≡ a) × (y ≡ b)) ⊎ ((x ≡ b) × (y ≡ a))
 unfolding between
 between-either a b x y e =
     ⊎-elim
@@ -43,7 +43,7 @@ module _ (w h : ℕ) (s : List ℕ) (room : slots w h ≤ mark) where
   n = names w h s
 
   -- a name that a table of sides holds is the side of a line
-  side-line : (d v : ℕ) → v ≢ mark → at (drawn w h n .side1) d ≡ v → border w h n d ≡ true
+  pub side-line : (d v : ℕ) → v ≢ mark → at (drawn w h n .side1) d ≡ v → border w h n d ≡ true
   unfolding drawn level plain
   side-line d v z e = go (border w h n d) refl
     where

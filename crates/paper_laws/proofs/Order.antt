@@ -2,7 +2,7 @@
 --   joins w h i l t == where the list l stops, joined in the tables t
 --   grouping s, grouped w h t == which cells are together, by the labels s, and in the drawing t
 use mathlib.Core.Path.{_≡_, refl, sym, ap, _∙_}
-use mathlib.Core.Bool.{Bool, true, false, _||_, true≢false}
+use mathlib.Core.Bool.{Bool, true, _||_}
 use mathlib.Core.List.{List, [], _∷_}
 use mathlib.Core.Logic.{_↔_}
 use Prim.Native.Nat.{ℕ, zero, suc, _≤_}
@@ -10,7 +10,7 @@ use lib.Dec.{eqb, lit<}
 use borrow.Author.Tests.{eqb-true, eqb-false, eq-eqb, not-true}
 use Rattle.laws.specs.First.{firstFailed, numbered}
 use Rattle.laws.proofs.First.{all-passed}
-use Rattle.laws.proofs.Test.{and-left, and-right}
+use Rattle.laws.proofs.Test.{and-left, and-right, or-neither}
 use Rattle.point_darts.specs.Dart.{mark, slots}
 use Rattle.paper.specs.Name.{names}
 use Rattle.paper.specs.Drawing.{Tables, drawn, drawing, Drawn, recovered}
@@ -21,10 +21,6 @@ use Rattle.paper.specs.Order.{Stop, unless, joins, grouping, grouped, Alike}
 use Rattle.paper_laws.proofs.Name.{beside-below, names-agree, names-names}
 use Rattle.paper_laws.proofs.IsDrawing.{recovered-names}
 use Rattle.paper_laws.proofs.Theorem.{sitting-drawn}
-
-or-neither : (p q : Bool) → (p || q) ≡ false → (p ≡ false) × (q ≡ false)
-or-neither true q e = absurd (true≢false e)
-or-neither false q e = (refl, e)
 
 same-tests : (x y u v : ℕ) → eqb x y ≡ eqb u v → (x ≡ y) ↔ (u ≡ v)
 same-tests x y u v e = (λ p. eqb-true u v (sym e ∙ eq-eqb x y p), λ p. eqb-true x y (e ∙ eq-eqb u v p))

@@ -5,24 +5,14 @@
 use mathlib.Core.Path.{_≡_, refl, sym, ap, _∙_}
 use mathlib.Core.List.{List}
 use mathlib.Core.Logic.{_≢_}
-use Prim.Native.Nat.{ℕ, zero, suc, _+_, _≤_, _<_}
+use Prim.Native.Nat.{ℕ, zero, suc, _+_, _≤_}
 use native.Mathlib.Nat.{zero-add, suc-add}
 use native.Mathlib.Decide.{ℕ-discrete}
 use lib.ListN.{length, set}
-use lib.Seq.{getD-set-same, getD-set-other}
 use Rattle.point_darts.specs.Dart.{mark}
 use Rattle.paper.specs.Joining.{at}
-use Rattle.table_entries.proofs.Entries.{at-end}
+use Rattle.table_entries.proofs.Entries.{at-end, at-other}
 use Rattle.region_darts.specs.Lists.{along, Of, Lists}
-
--- an entry after a store
-pub at-same : (t : List ℕ) (p v : ℕ) → p < length t → at (set t p v) p ≡ v
-unfolding at
-at-same t p v h = getD-set-same t p v mark h
-
-pub at-other : (t : List ℕ) (p v d : ℕ) → d ≢ p → at (set t p v) d ≡ at t d
-unfolding at
-at-other t p v d n = getD-set-other t p d v mark n
 
 pub along-next : (t : List ℕ) (k d : ℕ) → along t (suc k) d ≡ at t (along t k d)
 unfolding along

@@ -12,8 +12,9 @@ use native.Mathlib.Omega.{arith}
 use lib.ListN.{length, set}
 use Rattle.point_darts.specs.Dart.{mark}
 use Rattle.paper.specs.Joining.{at}
+use Rattle.table_entries.proofs.Entries.{at-same, at-other}
 use Rattle.region_darts.specs.Lists.{along, Reached}
-use Rattle.region_darts.proofs.Along.{at-same, at-other, along-add, along-set}
+use Rattle.region_darts.proofs.Along.{along-add, along-set}
 
 pub record Chain (t : List ℕ) (q : ℕ → Type 0) (m a b : ℕ) : Type 0 where
   pub all : (d : ℕ) → q d → Reached t m a d

@@ -9,7 +9,7 @@ use native.Mathlib.Omega.{arith}
 use lib.ListN.{length}
 use Rattle.point_darts.specs.Dart.{mark}
 use Rattle.paper.specs.Joining.{at, on}
-use Rattle.region_darts.specs.Lists.{Reached, Of, size, Lists}
+use Rattle.region_darts.specs.Lists.{Of, size, Lists}
 use Rattle.region_darts.proofs.Chain.{Chain}
 use Rattle.region_darts.proofs.Size.{of-inside, size-as}
 

@@ -12,8 +12,8 @@ use Rattle.laws.specs.Least.{lower}
 use Rattle.laws.proofs.Least.{lower-cases, lower-left, lower-right, lower-other}
 use Rattle.point_darts.specs.Dart.{mark}
 use Rattle.paper.specs.Joining.{at}
+use Rattle.table_entries.proofs.Entries.{at-same, at-other}
 use Rattle.region_darts.specs.Lists.{Of, size, Lists}
-use Rattle.region_darts.proofs.Along.{at-same, at-other}
 use Rattle.region_darts.proofs.Chain.{chain-as, chain-other, chain-link}
 use Rattle.region_darts.proofs.Size.{of-inside, size-as, size-both}
 use Rattle.region_darts.proofs.Group.{Group, lists-group, groups-lists}

@@ -16,9 +16,8 @@ use lib.ListN.{length, set, replicate, length-set, length-replicate, getD-replic
 use lib.Seq.{ext-getD}
 use Rattle.point_darts.specs.Dart.{mark}
 use Rattle.paper.specs.Joining.{at}
-use Rattle.table_entries.proofs.Entries.{at-end, on-entry}
+use Rattle.table_entries.proofs.Entries.{at-end, on-entry, at-same, at-other}
 use Rattle.region_darts.specs.Lists.{Of, size, Lists}
-use Rattle.region_darts.proofs.Along.{at-same, at-other}
 use Rattle.region_darts.proofs.Chain.{Chain, chain-as, chain-single, chain-other, chain-link}
 use Rattle.region_darts.proofs.Group.{Group, lists-group, groups-lists}
 use Rattle.region_darts.proofs.Size.{of-inside, of-side, size-as, size-more}

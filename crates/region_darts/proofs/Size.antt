@@ -6,7 +6,6 @@ use mathlib.Core.Bool.{Bool, true, false, _&&_}
 use mathlib.Core.List.{List}
 use mathlib.Core.Logic.{_≢_}
 use Prim.Native.Nat.{ℕ, zero, suc, _+_, _≤_, _<_, zero-le}
-use native.Mathlib.Decide.{decLt}
 use native.Mathlib.Omega.{arith}
 use lib.Dec.{eqb}
 use lib.ListN.{length}
@@ -16,20 +15,16 @@ use Rattle.laws.proofs.Test.{clash, and-true, and-left, and-right}
 use Rattle.laws.proofs.Count.{count-single, count-none}
 use Rattle.point_darts.specs.Dart.{mark}
 use Rattle.paper.specs.Joining.{at, on}
-use Rattle.table_entries.proofs.Entries.{at-end, on-mark}
+use Rattle.table_entries.proofs.Entries.{on-no-mark, on-below}
 use Rattle.region_darts.specs.Lists.{Of, size}
 
 -- a dart that has a side is in the table
 pub of-inside : (s : List ℕ) (g : ℕ → ℕ) (x d : ℕ) → Of s g x d → d < length s
-of-inside s g x d o = go (decLt d (length s))
-  where
-    go : Dec (d < length s) → d < length s
-    go (yes h) = h
-    go (no h) = clash (o .sided) (on-mark s d (at-end s d (omega arith)))
+of-inside s g x d o = on-below s d (o .sided)
 
 -- and its side is not the mark
 pub of-side : (s : List ℕ) (g : ℕ → ℕ) (x d : ℕ) → Of s g x d → at s d ≢ mark
-of-side s g x d o e = clash (o .sided) (on-mark s d e)
+of-side s g x d o = on-no-mark s d (o .sided)
 
 -- the test that is counted
 abbrev of : List ℕ → (ℕ → ℕ) → ℕ → ℕ → Bool

@@ -6,13 +6,14 @@ use mathlib.Core.List.{List, [], _∷_}
 use mathlib.Core.Logic.{_⊎_, inl, inr, _≢_}
 use Prim.Native.Nat.{ℕ, zero, suc, _≤_, _<_}
 use native.Mathlib.Nat.{not-suc-le-zero}
-use native.Mathlib.Decide.{ℕ-discrete}
+use native.Mathlib.Decide.{ℕ-discrete, decLt}
 use native.Mathlib.Omega.{arith}
 use lib.Dec.{eqb}
 use borrow.Author.Tests.{eq-eqb, ne-eqb}
 use lib.ListN.{length, getD, set, replicate, List·getD-eq-default}
 use lib.Seq.{getD-set-same, getD-set-other}
 use Rattle.laws.specs.Table.{listed, table}
+use Rattle.laws.proofs.Test.{clash}
 use Rattle.point_darts.specs.Dart.{mark}
 use Rattle.paper.specs.Joining.{at, on}
 
@@ -31,6 +32,14 @@ unfolding at
 at-end t d h = List·getD-eq-default t mark h
 
 -- An entry after a store.
+pub at-same : (t : List ℕ) (p v : ℕ) → p < length t → at (set t p v) p ≡ v
+unfolding at
+at-same t p v h = getD-set-same t p v mark h
+
+pub at-other : (t : List ℕ) (p v d : ℕ) → d ≢ p → at (set t p v) d ≡ at t d
+unfolding at
+at-other t p v d n = getD-set-other t p d v mark n
+
 pub set-cases : (t : List ℕ) (x q k : ℕ) → x < length t
     → ((k ≡ x) × (getD (set t x q) k 0 ≡ q)) ⊎ ((k ≢ x) × (getD (set t x q) k 0 ≡ getD t k 0))
 set-cases t x q k b = go (ℕ-discrete k x)
@@ -54,6 +63,17 @@ module _ (t : List ℕ) (d : ℕ) where
   pub on-entry : (at t d ≡ mark → ⊥) → on t d ≡ true
   unfolding on
   on-entry n = ap not (ne-eqb (at t d) mark n)
+
+  module _ (e : on t d ≡ true) where
+    pub on-no-mark : at t d ≢ mark
+    on-no-mark z = clash e (on-mark z)
+
+    pub on-below : d < length t
+    on-below = go (decLt d (length t))
+      where
+        go : Dec (d < length t) → d < length t
+        go (yes b) = b
+        go (no b) = absurd (on-no-mark (at-end t d (omega arith)))
 
 -- A table of one value alone.
 values-listed : (v k n : ℕ) → listed {A = ℕ} (λ i. v) k n ≡ replicate n v

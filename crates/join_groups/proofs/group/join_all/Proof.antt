@@ -3,13 +3,12 @@ use mathlib.Core.List.{_++_}
 use Prim.Native.Nat.{_*_}
 use native.Mathlib.Omega.{arith}
 use lib.ListN.{length, drop}
-use Rattle.point_darts.specs.Dart.{slots}
 use Rattle.point_darts.proofs.Fit.{cells-fit}
+use Rattle.paper.specs.Order.{stop}
 use Rattle.table_entries.proofs.Cleared.{cleared-same}
 use Rattle.table_entries.proofs.Front.{front-in, front-long, front-kept}
 use Rattle.table_lengths.proofs.Tested.{stated-slots}
 use Rattle.region_names.proofs.Room.{cells-part}
-use Rattle.join_groups.specs.Group.{stop}
 use Rattle.join_groups.proofs.Regrouping.{regrouped-stated}
 use Rattle.join_groups.proofs.group.join_all.Statement.{statement}
 use Rattle.join_groups.proofs.group.join_all.Tie as tie

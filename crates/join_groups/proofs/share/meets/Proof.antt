@@ -4,9 +4,9 @@ use native.Mathlib.Omega.{arith}
 use borrow.Author.Needs.{needs}
 use Rattle.point_darts.specs.Dart.{mark, reversal}
 use Rattle.paper.specs.Joining.{at}
+use Rattle.table_entries.proofs.Entries.{on-below}
 use Rattle.join_groups.proofs.Walking.{
   Walking,
-  on-below,
   walking-none,
   grown-on,
   walked-out,

@@ -1,4 +1,5 @@
-use Rattle.join_list.proofs.Ending.{stop-ended, open-pair, front-cleared, rest-cleared}
+use Rattle.join_rule.proofs.Readiness.{front-cleared, rest-cleared}
+use Rattle.join_list.proofs.Ending.{stop-ended, open-pair}
 use Rattle.join_list.proofs.each.join_all.Statement.{statement}
 use Rattle.join_list.proofs.each.join_all.Tie as tie
 

@@ -3,8 +3,8 @@ use mathlib.Core.Bool.{true}
 use native.Mathlib.Omega.{arith}
 use borrow.Author.Needs.{needs}
 use Rattle.paper.specs.Joining.{at, on}
-use Rattle.table_entries.proofs.Entries.{at-in}
-use Rattle.level_curves.proofs.Linking.{on-below, after-on, after-below, after-point}
+use Rattle.table_entries.proofs.Entries.{at-in, on-below}
+use Rattle.level_curves.proofs.Linking.{after-on, after-below, after-point}
 use Rattle.level_curves.proofs.Running.{Running, running-none, running-stop, running-more, running-out}
 use Rattle.level_curves.proofs.link.last.Statement.{statement}
 use Rattle.level_curves.proofs.link.last.Tie as tie
