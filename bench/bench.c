@@ -2,7 +2,8 @@
  *
  * A batch of sheets is drawn, then checked, its turns counted, then joined, each by one side and then by the other, on buffers
  * that are warm, in several rounds. Of each sheet, place and job the least of the rounds counts, and the times of all sheets are
- * added. Lists of joins are done on fewer sheets, by both sides, and by the library join by join too.
+ * added. Lists of joins are done on fewer sheets, by both sides, and by the library join by join too; lists of all joins that there are
+ * on one sheet of each size.
  * Random sheets are so many that the machine cannot learn which way the branches go, neither from one round to the next
  * nor from a sheet's drawing to its check. The answers of both sides are compared. Prints tables in Markdown. */
 
@@ -72,6 +73,14 @@ enum { MOST = CELLS / (LEAST * LEAST), SLOTS = 4 * (LEAST + 1) * (LEAST + 1) * M
  * so many of these sheets. */
 enum { LISTS = 3, LONGEST = 300, LIST_BATCHES = 2, LISTED = LIST_BATCHES * CELLS / SQUARE, LONG_LISTED = 2 };
 static const int joins[LISTS] = {1, 10, LONGEST};
+
+/* Lists of all joins that there are, by how they go about it: over the darts in order or by chance; cells of two combs that interlock,
+ * and then the two; the cells of the rim, a ring that closes round all others. And by chance on a sheet of square regions, the edges
+ * of these twice as long from one to the next. */
+enum { IN_ORDER, BY_CHANCE, SQUARES, COMBS, RING, ORDERS, ALL = WIDEST * TALLEST, SINGLY = 2, ROUNDS_SINGLY = 2 };
+enum { EDGE = 64, EDGES = 5 };
+static const char *const orders[ORDERS] = {"all different, in the order of darts", "all different, by chance", "nested squares",
+                                           "all different, two combs that interlock", "all different, a ring round all others"};
 
 /* Room for the seven tables of each sheet of a batch and its two tables of turns, the tables of one side. */
 struct room {
@@ -406,6 +415,105 @@ static void go_round_lists(int kind) {
         }
 }
 
+/* The list of all joins of an order, its pairs, and the least that it took by both sides, that a check took, and that its joins took
+ * one by one. */
+struct whole {
+    u16 list[2 * ALL];
+    int pairs;
+    float our, plain, check, singly;
+};
+static struct whole whole[ORDERS][SIZES];
+
+/* Whether an order joins two cells at once, before all others. */
+static int early(int order, int a, int b) {
+    int ax = a % width, ay = a / width, bx = b % width, by = b / width;
+    if (order == COMBS) {
+        int one = ax == 0 || (ax < width - 1 && ay % 2 == 0), two = bx == 0 || (bx < width - 1 && by % 2 == 0);
+        return one == two;
+    }
+    int one = ax == 0 || ay == 0 || ax == width - 1 || ay == height - 1;
+    int two = bx == 0 || by == 0 || bx == width - 1 || by == height - 1;
+    return one && two;
+}
+
+/* The list of an order, from the sides of a sheet that is drawn. */
+static void make_whole(int order, const u16 *side1, struct whole *all) {
+    static u16 up[ALL + 1];
+    static int darts[4 * (WIDEST + 1) * (TALLEST + 1)];
+    int far[4] = {1, width + 1, -1, -width - 1}, passes = order == COMBS ? 2 : 1;
+    for (int name = 0; name <= cells; name++) up[name] = (u16)name;
+    for (int d = 0; d < slots; d++) darts[d] = d;
+    for (int d = slots - 1; order == BY_CHANCE && d > 0; d--) {
+        int other = random_below(d + 1), dart = darts[d];
+        darts[d] = darts[other];
+        darts[other] = dart;
+    }
+    all->pairs = 0;
+    for (int pass = 0; pass < passes; pass++)
+        for (int k = 0; k < slots; k++) {
+            int d = darts[k];
+            if (side1[d] == MARK) continue;
+            int a = side1[d], b = side1[4 * (d / 4 + far[d % 4]) + (d % 4 ^ 2)];
+            if (!a || !b || (order >= COMBS && !pass && !early(order, a - 1, b - 1))) continue;
+            a = root_of(up, a);
+            b = root_of(up, b);
+            if (a == b) continue;
+            all->list[2 * all->pairs] = (u16)a;
+            all->list[2 * all->pairs++ + 1] = (u16)b;
+            up[a > b ? a : b] = (u16)(a < b ? a : b);
+        }
+}
+
+/* A sheet that both sides have drawn is checked, and its list done by one side and then by the other. */
+static void run_whole(struct hand h, struct whole *all) {
+    h.list = all->list;
+    h.pairs = all->pairs;
+    timed(our_check, h, &all->check);
+    timed(our_list, h, &all->our);
+    timed(its_list, h, &all->plain);
+    need(same(h.our, h.plain), "the two lists of all joins differ");
+}
+
+static void go_round_whole(int order, int size, int round) {
+    struct whole *all = &whole[order][size];
+    make_sheets(order == SQUARES ? 4 : 3, size);
+    lay(0);
+    struct hand h = take(0);
+    our_draw(h);
+    its_draw(h);
+    if (!round) make_whole(order, h.our.side1, all);
+    run_whole(h, all);
+    if (order >= SINGLY || size != AT_72 || round >= ROUNDS_SINGLY) return;
+    our_draw(h);
+    double began = now();
+    for (int k = 0; k < all->pairs; k++) {
+        h.a = all->list[2 * k];
+        h.b = all->list[2 * k + 1];
+        our_join(h);
+    }
+    keep(&all->singly, began);
+}
+
+/* Square regions of each edge: the list of all joins by chance, and the least that a drawing of the sheet took. */
+static struct whole square[EDGES];
+static float square_draw[EDGES];
+
+static void go_round_edges(int round) {
+    width = height = EDGE;
+    cells = EDGE * EDGE;
+    slots = 4 * (EDGE + 1) * (EDGE + 1);
+    count = 1;
+    for (int k = 0; k < EDGES; k++) {
+        struct whole *all = &square[k];
+        for (int c = 0; c < cells; c++) batch[c] = (u16)((c / EDGE >> k) * EDGE + (c % EDGE >> k));
+        struct hand h = take(0);
+        timed(our_draw, h, &square_draw[k]);
+        its_draw(h);
+        if (!round) make_whole(BY_CHANCE, h.our.side1, all);
+        run_whole(h, all);
+    }
+}
+
 /* The mean times. */
 static struct times mean(struct least least[PLACES][BATCHES][MOST], int size) {
     struct times sum = {0, 0, 0, 0};
@@ -430,7 +538,11 @@ static void measure(void) {
         dprintf(ERRORS, "bench: round %d of %d\n", round + 1, ROUNDS);
         for (int size = 0; size < SIZES; size++)
             for (int kind = 0; kind < KINDS; kind++) go_round(kind, size);
-        for (int kind = 0; PLAIN_LISTS && kind < KINDS; kind++) go_round_lists(kind);
+        if (!PLAIN_LISTS) continue;
+        for (int kind = 0; kind < KINDS; kind++) go_round_lists(kind);
+        for (int order = 0; order < ORDERS; order++)
+            for (int size = 1; size < SIZES; size++) go_round_whole(order, size, round);
+        go_round_edges(round);
     }
     for (int size = 0; size < SIZES; size++)
         for (int kind = 0; kind < KINDS; kind++) {
@@ -548,6 +660,37 @@ static void lists_table(void) {
     }
 }
 
+static void whole_table(void) {
+    if (!PLAIN_LISTS) return;
+    printf("\n| list of all joins: list / plain, and nanoseconds a join, the check left out |");
+    for (int size = 1; size < SIZES; size++) printf(" %d by %d |", sizes[size].width, sizes[size].height);
+    printf(" 72 by 72: joins | one by one / list |\n|---|");
+    for (int size = 1; size < SIZES; size++) printf("---|");
+    printf("---|---|\n");
+    for (int order = 0; order < ORDERS; order++) {
+        printf("| %s |", orders[order]);
+        for (int size = 1; size < SIZES; size++) {
+            struct whole *all = &whole[order][size];
+            printf(" %.2f, %.0f |", (double)(all->our / all->plain), (double)(all->our - all->check) * 1e3 / all->pairs);
+        }
+        printf(" %d |", whole[order][AT_72].pairs);
+        if (order < SINGLY) printf(" %.0f", (double)(whole[order][AT_72].singly / whole[order][AT_72].our));
+        printf(" |\n");
+    }
+}
+
+static void edges_table(void) {
+    if (!PLAIN_LISTS) return;
+    printf("\n| square regions, %d by %d; all joins, by chance | joins | list / plain | microseconds, the check left out "
+           "| a drawing left out too |\n|---|---|---|---|---|\n",
+           EDGE, EDGE);
+    for (int k = 0; k < EDGES; k++) {
+        double took = (double)(square[k].our - square[k].check);
+        printf("| %d by %d | %d | %.2f | %.1f | %.1f |\n", 1 << k, 1 << k, square[k].pairs, (double)(square[k].our / square[k].plain), took,
+               took - (double)square_draw[k]);
+    }
+}
+
 static void small_table(void) {
     printf("\n| sheet; join with its check, and without, in drawings | 4 by 4 | 9 by 9 | 18 by 18 | 36 by 36 |\n"
            "|---|---|---|---|---|\n");
@@ -623,6 +766,8 @@ int main(int words, char **word) {
     drawings_table();
     turns_table();
     lists_table();
+    whole_table();
+    edges_table();
     small_table();
     targets();
     growth_table();

@@ -6,7 +6,9 @@
  * longer run is walked once for its two ends. Totals are counted for even and odd points apart, so that cells of one region
  * side by side need not wait for each other. The check reads the names off the sides, draws and compares. A join checks, takes
  * out the lines that the two regions share, looks after the points at their ends, adds the totals, and finds pieces and parents
- * anew. A list of joins checks once, and finds pieces and parents once, at its end. Sizes and lengths are the caller's business. */
+ * anew. A list of joins checks once. A short one finds pieces and parents once, at its end; a longer one only groups the cells,
+ * asks by the darts of the smaller group whether two of them share a line, and is drawn at its end. Sizes and lengths are the
+ * caller's business. */
 
 #include "plain.h"
 
@@ -406,13 +408,72 @@ int plain_join(int width, int height, struct seven seven, int a, int b) {
     return number;
 }
 
+/* Groups of cells: a forest of first cells; and the darts of each group, in a list that ends with the mark, by the name of the
+ * group. */
+static u16 group_up[CELLS], dart_after[SLOTS], first_dart[CELLS + 1], last_dart[CELLS + 1];
+
+static u16 group_of(u16 name) { return name ? root_of(group_up, name - 1) + 1 : 0; }
+
+/* At first the regions, by the names that the check read off the sides. */
+static void start_groups(int width, int height, const u16 *restrict side) {
+    int cells = width * height;
+    for (int c = 0; c < cells; c++) group_up[c] = read_names[c] - 1;
+    memset(first_dart, 0xff, sizeof(u16) * (unsigned long)(cells + 1));
+    for (int d = 4 * (width + 1) * (height + 1) - 1; d >= 0; d--) {
+        u16 name = side[d];
+        if (name == MARK) continue;
+        u16 after = first_dart[name];
+        dart_after[d] = after;
+        first_dart[name] = (u16)d;
+        if (after == MARK) last_dart[name] = (u16)d;
+    }
+}
+
+/* Whether a dart of the group a has the group b on its left hand. */
+static int meets(int row, const u16 *side, int a, int b) {
+    int step[4] = {1, row, -1, -row};
+    for (int d = first_dart[a]; d != MARK; d = dart_after[d])
+        if (group_of(side[4 * (d / 4 + step[d & 3]) + ((d & 3) ^ 2)]) == b) return 1;
+    return 0;
+}
+
+/* Judges the names and puts the two groups together; cells has the cells of each group. */
+static int group_two(int width, int height, struct seven seven, int a, int b) {
+    u16 *cells = seven.cells;
+    if (a == 0 || b == 0) return 6;
+    if (a == b) return 7;
+    if (a > width * height || b > width * height || cells[a] == MARK || cells[b] == MARK) return 8;
+    if (!(cells[a] < cells[b] ? meets(width + 1, seven.side1, a, b) : meets(width + 1, seven.side1, b, a))) return 9;
+    int smaller = a < b ? a : b, larger = a + b - smaller;
+    cells[smaller] += cells[larger];
+    cells[larger] = MARK;
+    group_up[larger - 1] = (u16)(smaller - 1);
+    dart_after[last_dart[smaller]] = first_dart[larger];
+    last_dart[smaller] = last_dart[larger];
+    return 0;
+}
+
+/* The drawing of the groups. */
+static void draw_groups(int width, int height, struct seven seven) {
+    int row = width + 1;
+    memset(names, 0, sizeof(u16) * (unsigned long)(row * (height + 2) + 1));
+    for (int y = 0, c = 0; y < height; y++)
+        for (int x = 0; x < width; x++, c++) {
+            group_up[c] = group_up[group_up[c]];
+            names[(y + 1) * row + x + 1] = group_up[c] + 1;
+        }
+    draw_named(width, height, seven);
+}
+
 int plain_join_list(int width, int height, struct seven seven, const u16 *list, int pairs, int *place) {
+    enum { LONG = 10 };
     int number = plain_check(width, height, seven) ? 0 : 5, k = 0;
+    if (!number && pairs >= LONG) start_groups(width, height, seven.side1);
     while (!number && k < pairs) {
-        number = join_two(width, height, seven, list[2 * k], list[2 * k + 1]);
+        number = (pairs < LONG ? join_two : group_two)(width, height, seven, list[2 * k], list[2 * k + 1]);
         k += !number;
     }
-    if (k) find_parents(width, height, seven);
+    if (k) (pairs < LONG ? find_parents : draw_groups)(width, height, seven);
     if (number) *place = k;
     return number;
 }

@@ -105,8 +105,8 @@ module _ (w h : ℕ) (s c n t f e : List ℕ) (u : Tables) (v : Standing w h s c
     joinable k i =
         let same : (r : ℕ) → r ≢ 0 → used c r ≡ true → used (u .parent) r ≡ true =
         λ r z q.
-            sym (used-cells w h (room w h s c n t f e u v) u (standing-drawn w h s c n t f e u v) r z)
-            ∙ ap (λ k. used k r) (v .cells) ∙ q in
+        sym (used-cells w h (room w h s c n t f e u v) u (standing-drawn w h s c n t f e u v) r z)
+        ∙ ap (λ k. used k r) (v .cells) ∙ q in
         record {
           inner = k .inner;
           apart = k .apart;

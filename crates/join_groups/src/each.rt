@@ -47,7 +47,17 @@ pub fn join_each(
     let mut rest = names;
     let mut place: u16 = 0;
     while 1 < rest.len() {
-        let answer = pair::join_pair(width, rest[0], rest[1], side, cells, groups, list, first, last);
+        let answer = pair::join_pair(
+            width,
+            rest[0],
+            rest[1],
+            side,
+            cells,
+            groups,
+            list,
+            first,
+            last,
+        );
         if answer.number() != 0 {
             return End { answer, place };
         }

@@ -50,8 +50,8 @@ returns-2 c h e u v =
     let i = m .before .before in
     let s = i .before .before .before .before .before .before .before .before .before in
     let (o, q) =
-        meets-told _ h _ _ _ _ _ e u v _ _ _ (chosen-swap (passed-chosen _ _ _ (s .pre .0))) (i .get4 .ensures) _ (m .meets2 .kept .1 .1 .1 .1 .1 .0) _
-        (m .meets2 .ensures) in
+    meets-told _ h _ _ _ _ _ e u v _ _ _ (chosen-swap (passed-chosen _ _ _ (s .pre .0))) (i .get4 .ensures) _ (m .meets2 .kept .1 .1 .1 .1 .1 .0) _
+    (m .meets2 .ensures) in
     (o, q ∙ adjoin-swap _ h _ _ _)
 
 pub share-spec : {M : Type 1} → statement M
