@@ -41,11 +41,13 @@ fronted r =
 
 mul-n : tie.Need-mul-n
 mul-n c =
-    omega (arith, cells-fit _ _ (c .before .before .before .before .before .before .before .before .before .before .before .before .pre .1 .size))
+    let s = c .before .before .before .before .before .before .before .before .before .before .before .before in
+    omega (arith, cells-fit _ _ (s .pre .1 .size))
 
 cast-n : tie.Need-cast-n
 cast-n c =
-    omega (arith, cells-fit _ _ (c .before .before .before .before .before .before .before .before .before .before .before .before .pre .1 .size))
+    let s = c .before .before .before .before .before .before .before .before .before .before .before .before in
+    omega (arith, cells-fit _ _ (s .pre .1 .size))
 
 slice-relend-prefix-regroup : tie.Need-slice-relend-prefix-regroup
 slice-relend-prefix-regroup c =

@@ -82,8 +82,8 @@ returns-2 c l f =
     let b = looped k in
     let i = k .before .before .before in
     let r =
-    walked-met _ _ _ _ _ _ _ _ _ (b .loop .inv) (i .if1 .left) (begun b .pre .3) (omega (arith, i .before .loop-test .taken)) _ (g .group-of .kept .0)
-    _ _ (facing k) (g .group-of .ensures) (c .if2 .taken) l f in
+    walked-met _ _ _ _ _ _ _ _ _ (b .loop .inv) (i .if1 .left) (begun b .pre .3) (omega (arith, i .before .loop-test .taken)) _
+    (g .group-of .kept .0) _ _ (facing k) (g .group-of .ensures) (c .if2 .taken) l f in
     (r .0, λ e. r .1, λ e. absurd (true≢false e))
 
 get-requires-2 : tie.Need-get-requires-2 Inv-loop μ-loop
@@ -104,8 +104,8 @@ loop-again c =
     let b = looped k in
     let i = k .before .before .before in
     rw (c .get2 .ensures)
-    (walking-on _ _ _ _ _ _ _ _ _ (b .loop .inv) (i .if1 .left) (begun b .pre .3) (omega (arith, i .before .loop-test .taken)) _ (g .group-of .kept .0) _ _
-    (facing k) (g .group-of .ensures) (e .if2 .left))
+    (walking-on _ _ _ _ _ _ _ _ _ (b .loop .inv) (i .if1 .left) (begun b .pre .3) (omega (arith, i .before .loop-test .taken)) _
+    (g .group-of .kept .0) _ _ (facing k) (g .group-of .ensures) (e .if2 .left))
 
 same-length-3 : tie.Need-same-length-3 Inv-loop μ-loop
 same-length-3 c = c .before .loop .inv .long

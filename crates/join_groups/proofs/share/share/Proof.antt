@@ -29,7 +29,8 @@ returns c h e u v =
     let m = c .before .before in
     let i = m .before .before in
     let s = i .before .before .before .before .before .before .before .before .before in
-    meets-told _ h _ _ _ _ _ e u v _ _ _ (passed-chosen _ _ _ (s .pre .0)) (i .get3 .ensures) _ (m .meets .kept .1 .1 .1 .1 .1 .0) _ (m .meets .ensures)
+    meets-told _ h _ _ _ _ _ e u v _ _ _ (passed-chosen _ _ _ (s .pre .0)) (i .get3 .ensures) _
+    (m .meets .kept .1 .1 .1 .1 .1 .0) _ (m .meets .ensures)
 
 get-requires-4 : tie.Need-get-requires-4
 get-requires-4 c κs = tt
@@ -50,8 +51,8 @@ returns-2 c h e u v =
     let i = m .before .before in
     let s = i .before .before .before .before .before .before .before .before .before in
     let (o, q) =
-    meets-told _ h _ _ _ _ _ e u v _ _ _ (chosen-swap (passed-chosen _ _ _ (s .pre .0))) (i .get4 .ensures) _ (m .meets2 .kept .1 .1 .1 .1 .1 .0) _
-    (m .meets2 .ensures) in
+    meets-told _ h _ _ _ _ _ e u v _ _ _ (chosen-swap (passed-chosen _ _ _ (s .pre .0))) (i .get4 .ensures) _
+    (m .meets2 .kept .1 .1 .1 .1 .1 .0) _ (m .meets2 .ensures) in
     (o, q ∙ adjoin-swap _ h _ _ _)
 
 pub share-spec : {M : Type 1} → statement M
