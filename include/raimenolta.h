@@ -158,7 +158,8 @@ uint16_t raimenolta_join(
  * the drawing that those before it have left. The first entry that is refused ends the list: the joins before it stay, and
  * no later one is looked at. Refusals 1, 4, 12, 5, then of an entry 6, 7, 8, 9. A refusal writes the one number at place: that
  * of the entry, or 0 for 1, 4, 12 and 5, which leave the seven tables as they were. When it is done it leaves place as it was.
- * Two lists that are done in the same drawing and end in the same grouping of cells leave the same tables.
+ * Two lists that are done in the same drawing and end in the same grouping of cells leave the same tables. A list of ten pairs or
+ * more costs a check, little more than a drawing, and tens of nanoseconds a pair.
  */
 uint16_t raimenolta_join_list(
     uint16_t width, uint16_t height,

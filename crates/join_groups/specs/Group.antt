@@ -1,17 +1,16 @@
 -- Regions joined as groups of cells, while the sides of the drawing stay as they were.
 --   groupOf l v     == the name of the group that the region named v is of, where l has for each cell the first cell of its group; the
 --                      outside stays
---   Open w h t ws   == the size is one, the tables t are a drawing of it, and these and the work tables ws have the stated lengths
---   Grouped w h s l u == the drawing u is that of the groups l, made of the regions of a drawing with the sides s
 --   faced w s l d   == the group on the left hand of dart d, by the sides s
 --   Met .., Unmet .. == a dart of the list that starts at f, in the table t, has the group y on its left hand; none of its first m has
 --   Walkable ..     == each dart of that list has a side on both hands, of one of n cells or the outside
---   Regrouped ..    == the drawing where the list l stops is that of some labels, and the table r has at its front their names with the
---                      outside round them
---   Stopped ..      == groups stand for the drawing where the list l stops that was joined in the tables t₀, with the number k after i
---                      joins
+--   Grouped w h s l u == the drawing u is that of the groups l, made of the regions of a drawing with the sides s
+--   Open w h t ws   == the size is one, the tables t are a drawing of it, and these and the work tables ws have the stated lengths
 --   Standing ..     == groups stand for the drawing u: by the sides s and the cells c, the forest n of first cells, and the lists t, f, e
 --                      of the darts of each group
+--   Stopped ..      == so they do where the list l stops, joined in the tables t₀: with the number k after i joins
+--   Regrouped ..    == the drawing where it stops is that of some labels, and the table r has at its front their names with the outside
+--                      round them
 use mathlib.Core.Path.{_≡_}
 use mathlib.Core.Bool.{true}
 use mathlib.Core.List.{List, map}

@@ -1,4 +1,5 @@
 // The entries of a list, one after another.
+use crate::group::End;
 use crate::pair;
 use answer::Answer;
 ghost use mathlib.Core.Path.{_≡_};
@@ -9,12 +10,6 @@ ghost use Rattle.paper.specs.Drawing.{Tables};
 ghost use Rattle.paper.specs.Order.{whole};
 ghost use Rattle.answer.specs.Answer.{numberOf};
 ghost use Rattle.join_groups.specs.Group.{Standing, Stopped};
-
-// Where a list stops: what is answered there, and how many entries were joined.
-pub struct End {
-    pub answer: Answer,
-    pub place: u16,
-}
 
 // The entries of a list are joined one after another, up to the first that is refused, where groups stand for the drawing.
 pub fn join_each(

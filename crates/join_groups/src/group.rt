@@ -1,5 +1,5 @@
 use crate::each;
-use crate::each::End;
+use answer::Answer;
 use check_call::labels;
 use drawing::draw;
 use point_darts::dart;
@@ -22,6 +22,12 @@ ghost use Rattle.table_forest.specs.Forest.{Forest, Grown};
 ghost use Rattle.answer.specs.Answer.{numberOf};
 ghost use Rattle.region_names.specs.Frame.{surround, framed};
 ghost use Rattle.join_groups.specs.Group.{Open, Standing, Regrouped};
+
+// Where a list stops: what is answered there, and how many entries were joined.
+pub struct End {
+    pub answer: Answer,
+    pub place: u16,
+}
 
 // Takes one from each entry, so that a name gives way to the first cell of its region.
 fn take_one(names: &mut [u16])

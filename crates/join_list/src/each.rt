@@ -1,8 +1,8 @@
 // The entries of a list, one after another.
 use crate::pair;
 use answer::Answer;
-use join_groups::each::End;
 use join_groups::group;
+use join_groups::group::End;
 use join_rule::apply;
 ghost use mathlib.Core.Path.{_≡_};
 ghost use mathlib.Core.Bool.{true};
