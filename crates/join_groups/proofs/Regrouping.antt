@@ -20,7 +20,6 @@ use Rattle.paper.specs.Level.{side, border, level, plain}
 use Rattle.paper.specs.Total.{cellsOf}
 use Rattle.paper.specs.Drawing.{Tables, drawn, drawing, Drawn, recovered}
 use Rattle.paper.specs.Joining.{at, on}
-use Rattle.paper.specs.Refusal.{sized, stated}
 use Rattle.paper.specs.Order.{stop}
 use Rattle.paper_laws.proofs.Name.{name-range, names-names}
 use Rattle.paper_laws.proofs.IsDrawing.{length-recovered, recovered-names}
@@ -28,7 +27,6 @@ use Rattle.paper_laws.proofs.Marks.{within-fits, cells-slots}
 use Rattle.paper_laws.proofs.Enclosure.{Used, side-used, side-below}
 use Rattle.paper_laws.proofs.Drawn.{sides-on, drawn-side1}
 use Rattle.paper_laws.proofs.Added.{length-totals}
-use Rattle.table_lengths.specs.Given.{tables, works}
 use Rattle.table_forest.specs.Forest.{Forest}
 use Rattle.region_names.specs.Frame.{Down, surround, framed}
 use Rattle.region_darts.specs.Lists.{Lists}
@@ -149,10 +147,3 @@ stopped-regrouped w h ns k i t s c n l f e r p q =
       stops = ap (stop k i) (g .same) ∙ p .stops;
       round = q (v .groups) (rw (v .noded) (v .forest)) ∙ ap (framed w h) (sym (g .named));
     }
-
--- The tables that are drawn have the stated lengths.
-pub regrouped-stated : (w h : ℕ) (x s y o p c e a b k d c₁ a₁ b₁ k₁ d₁ : List ℕ)
-    → stated w h (tables x s y o p c e) (works a b k d) ≡ true → length c₁ ≡ length c → length a₁ ≡ length a → length b₁ ≡ length b
-    → length k₁ ≡ length k → length d₁ ≡ length d → stated w h (tables x s y o p c₁ e) (works a₁ b₁ k₁ d₁) ≡ true
-unfolding stated sized
-regrouped-stated w h x s y o p c e a b k d c₁ a₁ b₁ k₁ d₁ z lc la lb lk ld = rw (lc, la, lb, lk, ld) z

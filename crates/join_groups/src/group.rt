@@ -1,7 +1,6 @@
 use crate::each;
 use answer::Answer;
 use check_call::labels;
-use drawing::draw;
 use point_darts::dart;
 use region_darts::list;
 use region_names::frame;
@@ -15,13 +14,11 @@ ghost use Rattle.laws.specs.Table.{table};
 ghost use Rattle.sheet_size.specs.Size.{within};
 ghost use Rattle.point_darts.specs.Dart.{slots};
 ghost use Rattle.paper.specs.Drawing.{Tables, Drawn};
-ghost use Rattle.paper.specs.Refusal.{cleared};
-ghost use Rattle.paper.specs.Order.{pairs, whole, joins, stop};
-ghost use Rattle.table_lengths.specs.Given.{tables, works};
+ghost use Rattle.paper.specs.Order.{whole};
 ghost use Rattle.table_forest.specs.Forest.{Forest, Grown};
 ghost use Rattle.answer.specs.Answer.{numberOf};
 ghost use Rattle.region_names.specs.Frame.{surround, framed};
-ghost use Rattle.join_groups.specs.Group.{Open, Standing, Regrouped};
+ghost use Rattle.join_groups.specs.Group.{Standing, Regrouped};
 
 // Where a list stops: what is answered there, and how many entries were joined.
 pub struct End {
@@ -90,7 +87,7 @@ fn frame_groups(width: u16, height: u16, groups: &mut [u16], round: &mut [u16])
 
 // The entries of a list are joined as groups. The names that they leave come out at the front of the list's work table, with the
 // outside round them.
-fn regroup(
+pub fn regroup(
     width: u16,
     height: u16,
     names: &[u16],
@@ -116,69 +113,5 @@ fn regroup(
     start(width, height, side, groups, list, first, last);
     let end = each::join_each(width, names, side, cells, groups, list, first, last);
     frame_groups(width, height, groups, list);
-    end
-}
-
-// Joins by a list of names, two by two, in the seven tables of a drawing: one entry after another, up to the first that is refused.
-// The tables are drawn once, after the last join. The work tables come out cleared.
-pub fn join_all(
-    width: u16,
-    height: u16,
-    names: &[u16],
-    next1: &mut [u16],
-    side1: &mut [u16],
-    next3: &mut [u16],
-    other3: &mut [u16],
-    parent: &mut [u16],
-    cells: &mut [u16],
-    borders: &mut [u16],
-    work_a: &mut [u16],
-    work_b: &mut [u16],
-    work_c: &mut [u16],
-    work_d: &mut [u16],
-) -> End
-    requires { ⌜
-        (whole width (length (now names)) ≡ true) ×
-        Open width height (tables (now next1) (now side1) (now next3) (now other3) (now parent) (now cells) (now borders))
-        (works (now «work_a») (now «work_b») (now «work_c») (now «work_d»))
-        ⌝ }
-    ensures { λ r. ⌜
-        (stop (numberOf (r .answer)) (r .place)
-        (tables (now (next1 .exit)) (now (side1 .exit)) (now (next3 .exit)) (now (other3 .exit)) (now (parent .exit))
-        (now (cells .exit)) (now (borders .exit))) ≡
-        joins width height 0 (pairs (now (names .entry)))
-        (tables (now (next1 .entry)) (now (side1 .entry)) (now (next3 .entry)) (now (other3 .entry)) (now (parent .entry))
-        (now (cells .entry)) (now (borders .entry)))) ×
-        (works (now («work_a» .exit)) (now («work_b» .exit)) (now («work_c» .exit)) (now («work_d» .exit)) ≡
-        cleared (works (now («work_a» .entry)) (now («work_b» .entry)) (now («work_c» .entry)) (now («work_d» .entry))))
-        ⌝ }
-{
-    let n = (width * height) as usize;
-    let end = regroup(
-        width,
-        height,
-        names,
-        side1,
-        cells,
-        &mut work_a[..n],
-        work_b,
-        work_c,
-        work_d,
-    );
-    draw::draw_names(
-        width,
-        height,
-        next1,
-        side1,
-        next3,
-        other3,
-        parent,
-        cells,
-        borders,
-        work_a,
-        work_b,
-        work_c,
-        work_d,
-    );
     end
 }

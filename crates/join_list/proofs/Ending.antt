@@ -7,6 +7,7 @@ use mathlib.Core.List.{List, [], _∷_}
 use mathlib.Core.Logic.{_≢_}
 use Prim.Native.Nat.{ℕ, zero, suc, _≤_}
 use native.Mathlib.Decide.{ℕ-discrete}
+use lib.ListN.{length}
 use Rattle.laws.specs.First.{firstFailed}
 use Rattle.laws.proofs.First.{failed-from}
 use Rattle.sheet_size.specs.Size.{within}
@@ -14,7 +15,7 @@ use Rattle.paper.specs.Name.{names}
 use Rattle.paper.specs.Enclosure.{parents}
 use Rattle.paper.specs.Drawing.{Tables, drawing, Drawn}
 use Rattle.paper.specs.Joining.{at, on, joined}
-use Rattle.paper.specs.Refusal.{pairTests}
+use Rattle.paper.specs.Refusal.{sized, stated, pairTests}
 use Rattle.paper.specs.Order.{Stop, pairs, unless, joins, placed, stop}
 use Rattle.paper_laws.proofs.Marks.{within-fits, names-side-small}
 use Rattle.paper_laws.proofs.Joined.{parents-drawn}
@@ -109,3 +110,10 @@ module _ (w h : ℕ) (x s y o p c e b l : List ℕ) (k : Open w h (tables x s y 
 -- Two work tables, the first of four.
 pub open-pair : (w h : ℕ) (t : Tables) (a b c d : List ℕ) → Open w h t (works a b c d) → Open w h t (pair a b)
 open-pair w h t a b c d o = record { size = o .size; sizes = stated-pair w h t a b c d (o .sizes); drawn = o .drawn }
+
+-- The tables that are drawn have the stated lengths.
+pub regrouped-stated : (w h : ℕ) (x s y o p c e a b k d c₁ a₁ b₁ k₁ d₁ : List ℕ)
+    → stated w h (tables x s y o p c e) (works a b k d) ≡ true → length c₁ ≡ length c → length a₁ ≡ length a → length b₁ ≡ length b
+    → length k₁ ≡ length k → length d₁ ≡ length d → stated w h (tables x s y o p c₁ e) (works a₁ b₁ k₁ d₁) ≡ true
+unfolding stated sized
+regrouped-stated w h x s y o p c e a b k d c₁ a₁ b₁ k₁ d₁ z lc la lb lk ld = rw (lc, la, lb, lk, ld) z

@@ -1,6 +1,7 @@
 // The entries of a list, one after another.
 use crate::pair;
 use answer::Answer;
+use drawing::draw;
 use join_groups::group;
 use join_groups::group::End;
 use join_rule::apply;
@@ -186,7 +187,7 @@ fn join_short(
     told(answer, end.place)
 }
 
-// A list of so many names or more is joined as groups: it costs little more than a drawing, which is less than so many joins.
+// A list of so many names or more is joined as groups and drawn at its end, which costs less than so many joins by the rule.
 const LONG: usize = 20;
 
 // Joins by a list of names, two by two, in the seven tables of a drawing: one entry after another, up to the first that is refused.
@@ -241,10 +242,21 @@ pub fn join_all(
             work_b,
         );
     }
-    let end = group::join_all(
+    let n = (width * height) as usize;
+    let end = group::regroup(
         width,
         height,
         names,
+        side1,
+        cells,
+        &mut work_a[..n],
+        work_b,
+        work_c,
+        work_d,
+    );
+    draw::draw_names(
+        width,
+        height,
         next1,
         side1,
         next3,
