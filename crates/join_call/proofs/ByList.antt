@@ -25,8 +25,7 @@ use Rattle.join_answer.specs.Judge.{judged}
 use Rattle.join_answer.proofs.Judging.{judged-tests, judged-work}
 use Rattle.join_list.specs.declared.each.Listed.{Listed}
 use Rattle.join_list.specs.Answer.{listNumber, listValues, listed}
-use Rattle.join_groups.specs.Group.{Open}
-use Rattle.join_list.specs.Each.{Ended}
+use Rattle.join_list.specs.Each.{Open, Ended}
 use Rattle.join_list.proofs.Ending.{joins-late}
 use Rattle.join_call.proofs.Cleared.{cleared-twice, cleared-stated}
 

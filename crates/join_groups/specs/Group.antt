@@ -5,7 +5,6 @@
 --   Met .., Unmet .. == a dart of the list that starts at f, in the table t, has the group y on its left hand; none of its first m has
 --   Walkable ..     == each dart of that list has a side on both hands, of one of n cells or the outside
 --   Grouped w h s l u == the drawing u is that of the groups l, made of the regions of a drawing with the sides s
---   Open w h t ws   == the size is one, the tables t are a drawing of it, and these and the work tables ws have the stated lengths
 --   Standing ..     == groups stand for the drawing u: by the sides s and the cells c, the forest n of first cells, and the lists t, f, e
 --                      of the darts of each group
 --   Stopped ..      == so they do where the list l stops, joined in the tables t₀: with the number k after i joins
@@ -20,9 +19,8 @@ use lib.ListN.{length, getD, take}
 use Rattle.sheet_size.specs.Size.{within}
 use Rattle.point_darts.specs.Dart.{mark, slots, reversal}
 use Rattle.paper.specs.Name.{names}
-use Rattle.paper.specs.Drawing.{Tables, drawing, Drawn}
+use Rattle.paper.specs.Drawing.{Tables, drawing}
 use Rattle.paper.specs.Joining.{at, on}
-use Rattle.paper.specs.Refusal.{stated}
 use Rattle.paper.specs.Order.{pairs, stop, joins}
 use Rattle.table_forest.specs.Forest.{Forest}
 use Rattle.region_names.specs.Frame.{surround, framed}
@@ -55,11 +53,6 @@ pub record Grouped (w h : ℕ) (s l : List ℕ) (u : Tables) : Type 0 where
   pub same : drawing w h after ≡ u
   pub named : names w h after ≡ map suc l
   pub led : names w h after ≡ map (groupOf l) (names w h before)
-
-pub record Open (w h : ℕ) (t : Tables) (ws : List (List ℕ)) : Type 0 where
-  pub size : within w h ≡ true
-  pub sizes : stated w h t ws ≡ true
-  pub drawn : Drawn w h t
 
 pub record Standing (w h : ℕ) (s c n t f e : List ℕ) (u : Tables) : Type 0 where
   pub size : within w h ≡ true

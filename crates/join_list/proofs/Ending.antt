@@ -27,8 +27,7 @@ use Rattle.join_rule.specs.Apply.{pair, found}
 use Rattle.join_rule.proofs.Readiness.{stated-pair}
 use Rattle.join_list.specs.declared.each.Listed.{Listed}
 use Rattle.join_list.specs.Answer.{listNumber, listValues}
-use Rattle.join_groups.specs.Group.{Open}
-use Rattle.join_list.specs.Each.{Left, Ended}
+use Rattle.join_list.specs.Each.{Open, Left, Ended}
 
 -- The answer.
 module _ (r : Answer) (i : ℕ) where

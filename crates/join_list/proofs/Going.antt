@@ -21,9 +21,8 @@ use Rattle.paper_laws.proofs.Order.{passed-joinable}
 use Rattle.paper_laws.proofs.Theorem.{joined-again}
 use Rattle.table_lengths.proofs.Tested.{stated-names, stated-slots}
 use Rattle.join_rule.specs.Apply.{pair, found, Topped}
-use Rattle.join_groups.specs.Group.{Open}
 use Rattle.join_groups.proofs.Entries as Entries
-use Rattle.join_list.specs.Each.{Left}
+use Rattle.join_list.specs.Each.{Open, Left}
 
 pub record Going (w h : ℕ) (l : List ℕ) (t : Tables) (b m : List ℕ) (u : Tables) (c n r : List ℕ) (i : ℕ) : Type 0 where
   pub entries : Entries.Going w h l t u r i

@@ -14,7 +14,7 @@ use Rattle.answer.specs.Answer.{numberOf}
 use Rattle.join_rule.specs.Apply.{Ready}
 use Rattle.join_rule.proofs.Readiness.{drawn-ready}
 use Rattle.join_answer.specs.Asked.{asked}
-use Rattle.join_groups.specs.Group.{Open}
+use Rattle.join_list.specs.Each.{Open}
 
 pub done-none : numberOf Answer.Done ≡ 0
 unfolding numberOf

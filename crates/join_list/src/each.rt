@@ -20,8 +20,7 @@ ghost use Rattle.table_lengths.specs.Given.{tables, works};
 ghost use Rattle.answer.specs.Answer.{numberOf};
 ghost use Rattle.join_rule.specs.Apply.{pair, found, Topped};
 ghost use Rattle.join_list.specs.Answer.{listNumber, listValues};
-ghost use Rattle.join_groups.specs.Group.{Open};
-ghost use Rattle.join_list.specs.Each.{Left, Ended};
+ghost use Rattle.join_list.specs.Each.{Open, Left, Ended};
 
 // What joining by a list answers.
 pub enum Listed {

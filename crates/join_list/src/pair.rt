@@ -8,7 +8,7 @@ ghost use Rattle.paper.specs.Joining.{joined};
 ghost use Rattle.paper.specs.Refusal.{pairTests};
 ghost use Rattle.answer.specs.Answer.{numberOf};
 ghost use Rattle.join_rule.specs.Apply.{pair, found, Topped};
-ghost use Rattle.join_groups.specs.Group.{Open};
+ghost use Rattle.join_list.specs.Each.{Open};
 
 // Joins the regions a and b in a drawing whose parents are left for later: nothing reads them, since its cells tell as well which
 // names are in use. Refusals 6 to 9, which leave everything. The tops of the pieces are left at the front of back; list is work.
