@@ -1,6 +1,6 @@
 -- The outcomes that an answer tells.
 --   outcome k vs ts us ws == the outcome with the number k: done, the values vs and the tables us; else the tables ts
---   workLeft k ws   == what such an outcome leaves of the work tables ws
+--   work_left k ws   == what such an outcome leaves of the work tables ws
 --   told r ts ws    == the outcome that the answer r tells, with no values
 use mathlib.Core.Path.{◌≡◌, refl, sym, ap, ◌∙◌}
 use mathlib.Core.Bool.{cond}
@@ -10,83 +10,83 @@ use Prim.Native.Nat.{ℕ, zero, suc, ◌≤◌, ◌<◌}
 use native.Mathlib.Omega.{arith}
 use lib.Dec.{eqb}
 use borrow.Author.Tests.{lt-ltb, le-ltb}
-use Rattle.paper.specs.Refusal.{Outcome, ended, workLeft, outcome, cleared}
+use Rattle.paper.specs.Refusal.{Outcome, ended, work_left, outcome, cleared}
 use Rattle.answer.specs.declared.Answer.{Answer}
 use Rattle.answer.specs.Answer.{number_of, told}
 
 -- refusals 1 to 4 leave the work tables
-pub work-kept : (k : ℕ) (ws : List (List ℕ)) → k ≢ 0 → k < 5 → workLeft k ws ≡ ws
-unfolding workLeft
-work-kept zero ws n l = absurd (n refl)
-work-kept (suc k) ws n l = rw (lt-ltb k 4 (omega (arith, l)))
+pub work_kept : (k : ℕ) (ws : List (List ℕ)) → k ≢ 0 → k < 5 → work_left k ws ≡ ws
+unfolding work_left
+work_kept zero ws n l = absurd (n refl)
+work_kept (suc k) ws n l = rw (lt-ltb k 4 (omega (arith, l)))
 
 -- done and the later refusals clear them
-pub work-cleared : (k : ℕ) (ws : List (List ℕ)) → (k ≢ 0 → 5 ≤ k) → workLeft k ws ≡ cleared ws
-unfolding workLeft
-work-cleared zero ws l = refl
-work-cleared (suc k) ws l = rw (le-ltb k 4 (omega (arith, l (λ z. omega (arith, z)))))
+pub work_cleared : (k : ℕ) (ws : List (List ℕ)) → (k ≢ 0 → 5 ≤ k) → work_left k ws ≡ cleared ws
+unfolding work_left
+work_cleared zero ws l = refl
+work_cleared (suc k) ws l = rw (le-ltb k 4 (omega (arith, l (λ z. omega (arith, z)))))
 
 -- The number and the work tables of an outcome.
 module _ (k : ℕ) (vs : List ℕ) (ts us ws : List (List ℕ)) where
-  pub outcome-number : (outcome k vs ts us ws).number ≡ k
+  pub outcome_number : (outcome k vs ts us ws).number ≡ k
   unfolding outcome
-  outcome-number = by k
+  outcome_number = by k
     where
       by : (k : ℕ) → (outcome k vs ts us ws).number ≡ k
       by zero = refl
       by (suc k) = refl
 
-  pub outcome-work : (outcome k vs ts us ws).work ≡ workLeft k ws
-  unfolding outcome workLeft
-  outcome-work = by k
+  pub outcome_work : (outcome k vs ts us ws).work ≡ work_left k ws
+  unfolding outcome work_left
+  outcome_work = by k
     where
-      by : (k : ℕ) → (outcome k vs ts us ws).work ≡ workLeft k ws
+      by : (k : ℕ) → (outcome k vs ts us ws).work ≡ work_left k ws
       by zero = refl
       by (suc k) = refl
 
   -- an outcome that refuses, and one that is done
-  pub outcome-refused : k ≢ 0 → (xs : List (List ℕ)) → xs ≡ workLeft k ws → ended k [] ts xs ≡ outcome k vs ts us ws
-  unfolding outcome workLeft
-  outcome-refused = by k
+  pub outcome_refused : k ≢ 0 → (xs : List (List ℕ)) → xs ≡ work_left k ws → ended k [] ts xs ≡ outcome k vs ts us ws
+  unfolding outcome work_left
+  outcome_refused = by k
     where
-      by : (k : ℕ) → k ≢ 0 → (xs : List (List ℕ)) → xs ≡ workLeft k ws → ended k [] ts xs ≡ outcome k vs ts us ws
+      by : (k : ℕ) → k ≢ 0 → (xs : List (List ℕ)) → xs ≡ work_left k ws → ended k [] ts xs ≡ outcome k vs ts us ws
       by zero n xs e = absurd (n refl)
       by (suc k) n xs e = rw e
 
-  pub outcome-done : k ≡ 0 → (zs xs : List (List ℕ)) → zs ≡ us → xs ≡ cleared ws
+  pub outcome_done : k ≡ 0 → (zs xs : List (List ℕ)) → zs ≡ us → xs ≡ cleared ws
       → ended 0 vs zs xs ≡ outcome k vs ts us ws
-  unfolding outcome workLeft
-  outcome-done e zs xs p q = rw (e, p, q)
+  unfolding outcome work_left
+  outcome_done e zs xs p q = rw (e, p, q)
 
 -- An answer of a number.
 module _ (r : Answer) (k : ℕ) (e : number_of r ≡ k) where
-  pub told-refused : number_of r ≢ 0 → (vs : List ℕ) (ts us ws xs : List (List ℕ)) → xs ≡ workLeft k ws
+  pub told_refused : number_of r ≢ 0 → (vs : List ℕ) (ts us ws xs : List (List ℕ)) → xs ≡ work_left k ws
       → told r ts xs ≡ outcome k vs ts us ws
   unfolding told
-  told-refused n vs ts us ws xs p = rw e (outcome-refused k vs ts us ws (λ z. n (e ∙ z)) xs p)
+  told_refused n vs ts us ws xs p = rw e (outcome_refused k vs ts us ws (λ z. n (e ∙ z)) xs p)
 
   -- the number is below 5, so that nothing has changed
-  pub told-early : number_of r ≢ 0 → k < 5 → (vs : List ℕ) (ts us ws : List (List ℕ)) → told r ts ws ≡ outcome k vs ts us ws
-  told-early n l vs ts us ws = told-refused n vs ts us ws ws (sym (work-kept k ws (λ z. n (e ∙ z)) l))
+  pub told_early : number_of r ≢ 0 → k < 5 → (vs : List ℕ) (ts us ws : List (List ℕ)) → told r ts ws ≡ outcome k vs ts us ws
+  told_early n l vs ts us ws = told_refused n vs ts us ws ws (sym (work_kept k ws (λ z. n (e ∙ z)) l))
 
-  pub told-done : number_of r ≡ 0 → (ts us ws zs xs : List (List ℕ)) → zs ≡ us → xs ≡ cleared ws
+  pub told_done : number_of r ≡ 0 → (ts us ws zs xs : List (List ℕ)) → zs ≡ us → xs ≡ cleared ws
       → told r zs xs ≡ outcome k [] ts us ws
   unfolding told
-  told-done z ts us ws zs xs p q = rw z (outcome-done k [] ts us ws (sym e ∙ z) zs xs p q)
+  told_done z ts us ws zs xs p q = rw z (outcome_done k [] ts us ws (sym e ∙ z) zs xs p q)
 
   -- a call that leaves its tables, whatever it answers
-  pub told-left : (ts ws xs : List (List ℕ)) → xs ≡ workLeft k ws → told r ts xs ≡ outcome k [] ts ts ws
-  unfolding told workLeft outcome
-  told-left ts ws xs p = rw e (by k p)
+  pub told_left : (ts ws xs : List (List ℕ)) → xs ≡ work_left k ws → told r ts xs ≡ outcome k [] ts ts ws
+  unfolding told work_left outcome
+  told_left ts ws xs p = rw e (by k p)
     where
-      by : (k : ℕ) → xs ≡ workLeft k ws → ended k [] ts xs ≡ outcome k [] ts ts ws
+      by : (k : ℕ) → xs ≡ work_left k ws → ended k [] ts xs ≡ outcome k [] ts ts ws
       by zero p = rw p
       by (suc k) p = rw p
 
 -- One outcome has one number, one list of values, one of tables and one of work tables.
-pub ended-one : (k n : ℕ) (vs us : List ℕ) (ts xs ws ys : List (List ℕ)) → ended k vs ts ws ≡ ended n us xs ys
+pub ended_one : (k n : ℕ) (vs us : List ℕ) (ts xs ws ys : List (List ℕ)) → ended k vs ts ws ≡ ended n us xs ys
     → (k ≡ n) × (vs ≡ us) × (ts ≡ xs) × (ws ≡ ys)
-ended-one k n vs us ts xs ws ys e = (
+ended_one k n vs us ts xs ws ys e = (
   ap (λ (o : Outcome). o.number) e,
   ap (λ (o : Outcome). o.values) e,
   ap (λ (o : Outcome). o.tables) e,
@@ -110,28 +110,28 @@ answer_of n =
     (cond (eqb n 11) Answer.Editor
     Answer.List)))))))))))
 
-answer-of : (r : Answer) → answer_of (number_of r) ≡ r
+answer_of_lem : (r : Answer) → answer_of (number_of r) ≡ r
 unfolding answer_of number_of
-answer-of Answer.Done = refl
-answer-of Answer.Size = refl
-answer-of Answer.Level = refl
-answer-of Answer.Sheet = refl
-answer-of Answer.Tables = refl
-answer-of Answer.Drawing = refl
-answer-of Answer.Outside = refl
-answer-of Answer.Equal = refl
-answer-of Answer.Name = refl
-answer-of Answer.Apart = refl
-answer-of Answer.Owner = refl
-answer-of Answer.Editor = refl
-answer-of Answer.List = refl
+answer_of_lem Answer.Done = refl
+answer_of_lem Answer.Size = refl
+answer_of_lem Answer.Level = refl
+answer_of_lem Answer.Sheet = refl
+answer_of_lem Answer.Tables = refl
+answer_of_lem Answer.Drawing = refl
+answer_of_lem Answer.Outside = refl
+answer_of_lem Answer.Equal = refl
+answer_of_lem Answer.Name = refl
+answer_of_lem Answer.Apart = refl
+answer_of_lem Answer.Owner = refl
+answer_of_lem Answer.Editor = refl
+answer_of_lem Answer.List = refl
 
-pub number-one : (r q : Answer) → number_of r ≡ number_of q → r ≡ q
-number-one r q e = sym (answer-of r) ∙ ap answer_of e ∙ answer-of q
+pub number_one : (r q : Answer) → number_of r ≡ number_of q → r ≡ q
+number_one r q e = sym (answer_of_lem r) ∙ ap answer_of e ∙ answer_of_lem q
 
-pub told-one : (r q : Answer) (ts us ws xs : List (List ℕ)) → told r ts ws ≡ told q us xs
+pub told_one : (r q : Answer) (ts us ws xs : List (List ℕ)) → told r ts ws ≡ told q us xs
     → (r ≡ q) × (ts ≡ us) × (ws ≡ xs)
 unfolding told
-told-one r q ts us ws xs e =
-    let (n, v, t, w) = ended-one (number_of r) (number_of q) [] [] ts us ws xs e in
-    (number-one r q n, t, w)
+told_one r q ts us ws xs e =
+    let (n, v, t, w) = ended_one (number_of r) (number_of q) [] [] ts us ws xs e in
+    (number_one r q n, t, w)

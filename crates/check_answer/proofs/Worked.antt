@@ -2,9 +2,9 @@
 -- done. Names are those of the cases of the paper's calls.
 use mathlib.Core.Path.{◌≡◌, refl}
 use mathlib.Core.List.{List, [], ◌∷◌, map}
-use Rattle.laws.proofs.Cases.{Case, failed, none-failed}
+use Rattle.laws.proofs.Cases.{Case, failed, none_failed}
 use Rattle.paper.specs.Refusal.{Outcome, ended, seven}
-use Rattle.paper.proofs.Worked.{same_outcome, outcome-equal, refused, one, rubbish, works, clean, calls-open}
+use Rattle.paper.proofs.Worked.{same_outcome, outcome_equal, refused, one, rubbish, works, clean, calls_open}
 use Rattle.check_answer.specs.Check.{checked}
 
 checks : List (Case Outcome)
@@ -16,9 +16,9 @@ checks =
     ∷ record { computed = checked 1 1 one (works 16 16); stated = ended 0 [] (seven one) (clean 16) }
     ∷ []
 
-checks-hold : failed same_outcome 0 checks ≡ []
-unfolding calls-open checked checks
-checks-hold = refl
+checks_hold : failed same_outcome 0 checks ≡ []
+unfolding calls_open checked checks
+checks_hold = refl
 
-check-cases : map (λ (c : Case Outcome). c.computed) checks ≡ map (λ (c : Case Outcome). c.stated) checks
-check-cases = none-failed same_outcome outcome-equal 0 checks checks-hold
+check_cases : map (λ (c : Case Outcome). c.computed) checks ≡ map (λ (c : Case Outcome). c.stated) checks
+check_cases = none_failed same_outcome outcome_equal 0 checks checks_hold

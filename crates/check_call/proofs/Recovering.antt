@@ -15,11 +15,11 @@ use lib.ListN.{length, set, take, length-set}
 use lib.Seq.{take-suc-set, take_all, append_snoc}
 use Rattle.sheet_size.specs.Size.{within}
 use Rattle.point_darts.specs.Dart.{mark, points, slots, dart}
-use Rattle.sheet_size.proofs.Limit.{within-limits}
+use Rattle.sheet_size.proofs.Limit.{within_limits}
 use Rattle.paper.specs.Joining.{at}
 use Rattle.paper.specs.Drawing.{recover, recovered}
 use Rattle.point_darts.proofs.Fit.{cells_fit}
-use Rattle.laws.proofs.Column.{column-on, column-back, row_on, row-down}
+use Rattle.laws.proofs.Column.{column_on, column_back, row_on, row_down}
 use Rattle.check_call.specs.Label.{label_at}
 
 -- the north dart of the left line of cell i
@@ -35,15 +35,15 @@ pub record Recovering (w h : ℕ) (s l : List ℕ) (i x d v : ℕ) : Type 0 wher
   pub same : take i l ++ recover w s v i left ≡ recovered w h s
 
 -- the label of cell i is the first of those from cell i on
-recover-more : (w : ℕ) (s : List ℕ) (v i n : ℕ) → recover w s v i (suc n)
+recover_more : (w : ℕ) (s : List ℕ) (v i n : ℕ) → recover w s v i (suc n)
     ≡ label_at s (hung w i) v ∷ recover w s (label_at s (hung w i) v) (suc i) n
 unfolding recover label_at at
-recover-more w s v i n = refl
+recover_more w s v i n = refl
 
 module _ (w h : ℕ) (s l : List ℕ) where
-  pub recovering-none : length l ≡ w * h → Recovering w h s l 0 0 (dart (w + 1) 3) mark
+  pub recovering_none : length l ≡ w * h → Recovering w h s l 0 0 (dart (w + 1) 3) mark
   unfolding recovered dart
-  recovering-none e =
+  recovering_none e =
       record {
         column = sym (zero-mod w);
         line = omega (arith, zero-div w);
@@ -68,22 +68,22 @@ module _ (w h : ℕ) (s l : List ℕ) where
   more i v e b (suc m) a q =
       let u = label_at s (hung w i) v in
       let k : i < length l = omega arith in
-      (m, omega arith, rw (add-one, take-suc-set l i u k, append_snoc, ← recover-more w s v i m) q)
+      (m, omega arith, rw (add-one, take-suc-set l i u k, append_snoc, ← recover_more w s v i m) q)
 
   module _ (i x p v : ℕ) (f : Recovering w h s l i x (dart p 3) v) where
-    pub recovering-all : w * h ≤ i → l ≡ recovered w h s
-    recovering-all b = all i v f.left f.ahead b f.long f.same
+    pub recovering_all : w * h ≤ i → l ≡ recovered w h s
+    recovering_all b = all i v f.left f.ahead b f.long f.same
 
     -- the darts' numbers fit
-    pub recovering-fit : within w h ≡ true → i < w * h → dart (p + 2) 3 < mark
+    pub recovering_fit : within w h ≡ true → i < w * h → dart (p + 2) 3 < mark
     unfolding dart mark
-    recovering-fit e b =
-        omega (arith, f.line, div-le_self i w, cells_fit w h e, (within-limits w h e).width-most)
+    recovering_fit e b =
+        omega (arith, f.line, div-le_self i w, cells_fit w h e, (within_limits w h e).width_most)
 
     -- and are those of the sheet
-    pub recovering-in : 0 < w → i < w * h → dart p 3 < slots w h
+    pub recovering_in : 0 < w → i < w * h → dart p 3 < slots w h
     unfolding dart slots points
-    recovering-in z b =
+    recovering_in z b =
         let l : i / w < h = (div-lt_iff_lt-mul z).1 (rw (mul_comm h w) b) in
         rw (add-one h, mul-suc (w + 1) h, add-mul w 1 h) (omega (arith, f.line))
 
@@ -96,11 +96,11 @@ module _ (w h : ℕ) (s l : List ℕ) where
       step = rw here (more i v f.long b f.left f.ahead f.same)
 
       -- a cell more, in the row
-      pub recovering-on : 0 < w → x + 1 ≢ w → Recovering w h s (set l i u) (i + 1) (x + 1) (dart (p + 1) 3) u
+      pub recovering_on : 0 < w → x + 1 ≢ w → Recovering w h s (set l i u) (i + 1) (x + 1) (dart (p + 1) 3) u
       unfolding dart
-      recovering-on z n =
+      recovering_on z n =
           record {
-            column = column-on w z i x f.column n;
+            column = column_on w z i x f.column n;
             line = omega (arith, f.line, row_on w z i x f.column n);
             long = length-set l i u ∙ f.long;
             left = step.0;
@@ -109,12 +109,12 @@ module _ (w h : ℕ) (s l : List ℕ) where
           }
 
       -- at the end of the row
-      pub recovering-down : 0 < w → x + 1 ≡ w → Recovering w h s (set l i u) (i + 1) 0 (dart (p + 1 + 1) 3) u
+      pub recovering_down : 0 < w → x + 1 ≡ w → Recovering w h s (set l i u) (i + 1) 0 (dart (p + 1 + 1) 3) u
       unfolding dart
-      recovering-down z n =
+      recovering_down z n =
           record {
-            column = column-back w z i x f.column n;
-            line = omega (arith, f.line, row-down w z i x f.column n);
+            column = column_back w z i x f.column n;
+            line = omega (arith, f.line, row_down w z i x f.column n);
             long = length-set l i u ∙ f.long;
             left = step.0;
             ahead = step.1;

@@ -3,7 +3,7 @@ ghost use Rattle.point_darts.specs.Dart.{points, slots};
 ghost use Rattle.sheet_size.specs.Size.{within};
 ghost use Rattle.region_names.specs.Frame.{surround};
 ghost use Rattle.region_totals.specs.Tally.{Named};
-ghost use Rattle.drawing.specs.Parts.{roundOf, masksOf, linesAgree, totalsAgree, curvesAgree};
+ghost use Rattle.drawing.specs.Parts.{round_of, masks_of, lines_agree, totals_agree, curves_agree};
 
 use crate::labels;
 use drawing::parts;
@@ -22,7 +22,7 @@ pub fn recover_names(
 )
     requires { (within width height ≡ true) × (length side1.now ≡ slots width height) × (length a.old ≡ slots width height) ×
         (length b.old ≡ slots width height) × (length c.old ≡ slots width height) }
-    ensures { take (surround width height) a.new ≡ roundOf width height side1.now }
+    ensures { take (surround width height) a.new ≡ round_of width height side1.now }
 {
     let cells = (width * height) as usize;
     labels::recover(width, height, side1, &mut c[..cells]);
@@ -44,8 +44,8 @@ pub fn totals_agree(
     requires { (within width height ≡ true) × (length a.now ≡ slots width height) ×
         Named (width * height + 1) (take (surround width height) a.now) × (length b.old ≡ slots width height) ×
         (length c.old ≡ slots width height) × (length d.old ≡ slots width height) }
-    ensures { (s : List ℕ) → take (surround width height) a.now ≡ roundOf width height s →
-        result ≡ totalsAgree width height s cells.now borders.now }
+    ensures { (s : List ℕ) → take (surround width height) a.now ≡ round_of width height s →
+        result ≡ totals_agree width height s cells.now borders.now }
 {
     let names = (width * height + 1) as usize;
     parts::draw_totals(width, height, a, &mut c[..names], &mut d[..names], b);
@@ -66,9 +66,9 @@ pub fn lines_agree(
 ) -> bool
     requires { (within width height ≡ true) × (length a.now ≡ slots width height) × (length b.old ≡ slots width height) ×
         (length c.old ≡ slots width height) × (length d.old ≡ slots width height) ×
-        (take (surround width height) a.now ≡ roundOf width height side1.now) }
-    ensures { (result ≡ linesAgree width height next1.now side1.now) ×
-        (take (points width height) b.new ≡ masksOf width height side1.now) }
+        (take (surround width height) a.now ≡ round_of width height side1.now) }
+    ensures { (result ≡ lines_agree width height next1.now side1.now) ×
+        (take (points width height) b.new ≡ masks_of width height side1.now) }
 {
     parts::draw_lines(width, height, a, b, c, d);
     entry::both_same(next1, c, side1, d)
@@ -91,10 +91,10 @@ pub fn curves_agree(
     requires { (within width height ≡ true) × (length side1.now ≡ slots width height) × (length a.old ≡ slots width height) ×
         (length b.old ≡ slots width height) × (length c.old ≡ slots width height) ×
         (length d.old ≡ slots width height) × (length next1.now ≡ slots width height) ×
-        (linesAgree width height next1.now side1.now ≡ true) ×
-        (take (points width height) b.old ≡ masksOf width height side1.now) }
+        (lines_agree width height next1.now side1.now ≡ true) ×
+        (take (points width height) b.old ≡ masks_of width height side1.now) }
     ensures { result ≡
-        curvesAgree width height next1.now side1.now next3.now other3.now
+        curves_agree width height next1.now side1.now next3.now other3.now
         parent.now
         (take (points width height) b.old) }
 {

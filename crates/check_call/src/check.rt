@@ -1,7 +1,7 @@
 // The check whether seven tables are the drawing of some sheet.
 ghost use Rattle.std.specs.Prelude.{◌≡◌, true};
 ghost use Rattle.sheet_size.specs.Size.{within};
-ghost use Rattle.paper.specs.Drawing.{isDrawing};
+ghost use Rattle.paper.specs.Drawing.{is_drawing};
 ghost use Rattle.paper.specs.Refusal.{stated, seven};
 ghost use Rattle.answer.specs.Answer.{told};
 ghost use Rattle.table_lengths.specs.Given.{tables, works};
@@ -32,7 +32,7 @@ fn is_drawing(
         (works work_a.old work_b.old work_c.old work_d.old) ≡
         true) }
     ensures { result ≡
-        isDrawing width height
+        is_drawing width height
         (tables next1.now side1.now next3.now other3.now parent.now
         cells.now borders.now) }
 {

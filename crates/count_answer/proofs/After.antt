@@ -11,14 +11,14 @@ use Rattle.count_answer.specs.declared.Count.{Count}
 use Rattle.count_answer.specs.Count.{after}
 
 module _ (v : Answer) (k : Bool) (x : ℕ) where
-  pub after-refused : number_of v ≢ 0 → Count.Refused v ≡ after v k x
+  pub after_refused : number_of v ≢ 0 → Count.Refused v ≡ after v k x
   unfolding after
-  after-refused n = rw (ne_eqb (number_of v) 0 n)
+  after_refused n = rw (ne_eqb (number_of v) 0 n)
 
   module _ (z : number_of v ≡ 0) where
-    pub after-name : k ≡ false → Count.Refused Answer.Name ≡ after v k x
+    pub after_name : k ≡ false → Count.Refused Answer.Name ≡ after v k x
     unfolding after
-    after-name e = rw (eq-eqb (number_of v) 0 z, e)
+    after_name e = rw (eq-eqb (number_of v) 0 z, e)
 
     pub after_is : k ≡ true → Count.Is x ≡ after v k x
     unfolding after

@@ -1,6 +1,6 @@
 -- What a count answers: the number and the values of each answer, and the outcome that it tells (the paper, "Refusal numbers
 -- and their order").
---   countNumber r, values r == the number and the values that the count r tells
+--   count_number r, values r == the number and the values that the count r tells
 --   counted r ts ws == the outcome that it tells
 --   after v k x     == what a count answers after a check that answered v, of a name that k says is known, with the value x
 --   Countable v p   == where the answer v is done, names may be climbed in the parents p
@@ -18,16 +18,16 @@ use Rattle.answer.specs.declared.Answer.{Answer}
 use Rattle.answer.specs.Answer.{number_of}
 use Rattle.count_answer.specs.declared.Count.{Count}
 
-unfoldable pub countNumber : Count → ℕ
-countNumber (Count.Is v) = 0
-countNumber (Count.Refused r) = number_of r
+unfoldable pub count_number : Count → ℕ
+count_number (Count.Is v) = 0
+count_number (Count.Refused r) = number_of r
 
 unfoldable pub values : Count → List ℕ
 values (Count.Is v) = v ∷ []
 values (Count.Refused r) = []
 
 unfoldable pub counted : Count → List (List ℕ) → List (List ℕ) → Outcome
-counted r ts ws = ended (countNumber r) (values r) ts ws
+counted r ts ws = ended (count_number r) (values r) ts ws
 
 unfoldable pub after : Answer → Bool → ℕ → Count
 after v k x = cond (eqb (number_of v) 0) (cond k (Count.Is x) (Count.Refused Answer.Name)) (Count.Refused v)

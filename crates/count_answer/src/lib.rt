@@ -4,7 +4,7 @@ ghost use Rattle.region_depths.specs.Tree.{known};
 ghost use Rattle.paper.specs.Enclosure.{depth, holes};
 ghost use Rattle.paper.specs.Joining.{on};
 ghost use Rattle.answer.specs.Answer.{number_of};
-ghost use Rattle.count_answer.specs.Count.{countNumber, after, Countable, Lent};
+ghost use Rattle.count_answer.specs.Count.{count_number, after, Countable, Lent};
 
 use answer::Answer;
 use count_holes::holes;
@@ -22,7 +22,7 @@ pub enum Count {
 impl Count {
     // The number of the refusal, 0 for done.
     pub fn number(self) -> u16
-        ensures { result ≡ countNumber self }
+        ensures { result ≡ count_number self }
     {
         match self {
             Count::Is(_) => 0,

@@ -8,7 +8,7 @@ use mathlib.Core.List.{List, [], ◌∷◌}
 use Prim.Native.Nat.{ℕ, ◌+◌, ◌*◌, ◌≤◌, ◌<◌}
 use native.Mathlib.Omega.{arith}
 use lib.ListN.{length, get_or, replicate, length-replicate}
-use Rattle.laws.proofs.Table.{table-agree}
+use Rattle.laws.proofs.Table.{table_agree}
 use Rattle.sheet_size.specs.Size.{within}
 use Rattle.point_darts.specs.Dart.{mark, slots}
 use Rattle.point_darts.proofs.Fit.{cells_fit}
@@ -19,15 +19,15 @@ use Rattle.paper.specs.Joining.{on}
 use Rattle.paper.specs.Refusal.{seven, cleared}
 use Rattle.answer.specs.declared.Answer.{Answer}
 use Rattle.answer.specs.Answer.{number_of, told}
-use Rattle.table_lengths.proofs.Tested.{stated-names, stated-slots}
+use Rattle.table_lengths.proofs.Tested.{stated_names, stated_slots}
 use Rattle.region_depths.specs.Tree.{known, Falls}
-use Rattle.region_depths.specs.Census.{countedAt, counts}
-use Rattle.region_depths.proofs.Fall.{is-drawing-falls}
+use Rattle.region_depths.specs.Census.{counted_at, counts}
+use Rattle.region_depths.proofs.Fall.{is_drawing_falls}
 use Rattle.check_answer.specs.Check.{checked}
-use Rattle.check_answer.proofs.Given.{accepted-within, accepted-stated, accepted-is-drawing, accepted-work}
+use Rattle.check_answer.proofs.Given.{accepted_within, accepted_stated, accepted_is_drawing, accepted_work}
 use Rattle.count_holes.specs.Round.{pieces}
-use Rattle.count_holes.proofs.Drawn.{is-drawing-holes}
-use Rattle.count_turns.proofs.Drawn.{Told, is-drawing-turns}
+use Rattle.count_holes.proofs.Drawn.{is_drawing_holes}
+use Rattle.count_turns.proofs.Drawn.{Told, is_drawing_turns}
 use Rattle.count_answer.specs.Count.{Countable, Lent}
 
 -- Tables t, a work table b and others cs were given; the work table is now a, the others ds.
@@ -35,39 +35,39 @@ module _ (w h : ℕ) (t : Tables) (b : List ℕ) (cs : List (List ℕ)) (v : Ans
     (e : told v (seven t) (a ∷ ds) ≡ checked w h t (b ∷ cs)) where
   module _ (z : number_of v ≡ 0) where
     size : within w h ≡ true
-    size = accepted-within w h t (b ∷ cs) v (a ∷ ds) e z
+    size = accepted_within w h t (b ∷ cs) v (a ∷ ds) e z
 
     falls : Falls t.parent
-    falls = is-drawing-falls w h t size (accepted-is-drawing w h t (b ∷ cs) v (a ∷ ds) e z)
+    falls = is_drawing_falls w h t size (accepted_is_drawing w h t (b ∷ cs) v (a ∷ ds) e z)
 
     long : length t.parent ≡ w * h + 1
-    long = (stated-names w h t (b ∷ cs) (accepted-stated w h t (b ∷ cs) v (a ∷ ds) e z)).0
+    long = (stated_names w h t (b ∷ cs) (accepted_stated w h t (b ∷ cs) v (a ∷ ds) e z)).0
 
     fits : length t.parent ≤ mark
     unfolding mark
     fits = omega (arith, long, cells_fit w h size)
 
     sides : length t.side1 ≡ slots w h
-    sides = (stated-slots w h t (b ∷ cs) (accepted-stated w h t (b ∷ cs) v (a ∷ ds) e z)).1.0
+    sides = (stated_slots w h t (b ∷ cs) (accepted_stated w h t (b ∷ cs) v (a ∷ ds) e z)).1.0
 
     -- the check has cleared the work table
     emptied : a ≡ replicate (length b) 0
     unfolding cleared
-    emptied = ap (λ l. get_or l 0 []) (accepted-work w h t (b ∷ cs) v (a ∷ ds) e z)
+    emptied = ap (λ l. get_or l 0 []) (accepted_work w h t (b ∷ cs) v (a ∷ ds) e z)
 
     work : length a ≡ slots w h
     work =
         ap length emptied ∙ length-replicate (length b) 0
-        ∙ (stated-slots w h t (b ∷ cs) (accepted-stated w h t (b ∷ cs) v (a ∷ ds) e z)).1.1.1.1.0
+        ∙ (stated_slots w h t (b ∷ cs) (accepted_stated w h t (b ∷ cs) v (a ∷ ds) e z)).1.1.1.1.0
 
-    pub accepted-clear : replicate (length a) 0 ≡ a
-    accepted-clear = ap (λ n. replicate n 0) (ap length emptied ∙ length-replicate (length b) 0) ∙ sym emptied
+    pub accepted_clear : replicate (length a) 0 ≡ a
+    accepted_clear = ap (λ n. replicate n 0) (ap length emptied ∙ length-replicate (length b) 0) ∙ sym emptied
 
     rounds : (r : ℕ) → r < mark → pieces t.side1 (tops w h (on t.side1)) r ≡ holes w h (on t.side1) t.parent r
-    rounds = is-drawing-holes w h t size (accepted-is-drawing w h t (b ∷ cs) v (a ∷ ds) e z)
+    rounds = is_drawing_holes w h t size (accepted_is_drawing w h t (b ∷ cs) v (a ∷ ds) e z)
 
-    pub accepted-lent : Lent w h t.side1 t.parent a
-    accepted-lent =
+    pub accepted_lent : Lent w h t.side1 t.parent a
+    accepted_lent =
         record {
           size = size;
           sides = sides;
@@ -75,34 +75,34 @@ module _ (w h : ℕ) (t : Tables) (b : List ℕ) (cs : List (List ℕ)) (v : Ans
           fits = fits;
           rounds = rounds;
           work = work;
-          clear = accepted-clear;
+          clear = accepted_clear;
         }
 
     -- the depths, and the holes, of all names may be counted, into tables as long
-    pub accepted-depths : (m : ℕ) → m ≡ w * h + 1
+    pub accepted_depths : (m : ℕ) → m ≡ w * h + 1
         → Falls t.parent × (length t.parent ≤ mark) × (m ≡ length t.parent)
-    accepted-depths m p = (falls, fits, p ∙ sym long)
+    accepted_depths m p = (falls, fits, p ∙ sym long)
 
-    pub accepted-holes : (m : ℕ) → m ≡ w * h + 1
+    pub accepted_holes : (m : ℕ) → m ≡ w * h + 1
         → (within w h ≡ true) × (length t.side1 ≡ slots w h) × (length a ≡ slots w h) × (0 < length t.parent)
         × (length t.parent ≤ mark) × (m ≡ length t.parent)
-    accepted-holes m p = (size, sides, work, omega (arith, long), fits, p ∙ sym long)
+    accepted_holes m p = (size, sides, work, omega (arith, long), fits, p ∙ sym long)
 
-    pub accepted-counts : counts (λ _. pieces t.side1 (tops w h (on t.side1))) t.parent
+    pub accepted_counts : counts (λ _. pieces t.side1 (tops w h (on t.side1))) t.parent
         ≡ counts (holes w h (on t.side1)) t.parent
-    unfolding counts countedAt
-    accepted-counts =
-        table-agree (length t.parent) _ _
+    unfolding counts counted_at
+    accepted_counts =
+        table_agree (length t.parent) _ _
         (λ r l. ap (λ k. cond (known t.parent r) k mark) (rounds r (omega (arith, fits))))
 
     -- the turns of the curves may be counted, and are those of the paper
-    pub accepted-curves : (m n : ℕ) → m ≡ slots w h → n ≡ slots w h
+    pub accepted_curves : (m n : ℕ) → m ≡ slots w h → n ≡ slots w h
         → (within w h ≡ true) × (length t.next1 ≡ slots w h) × (m ≡ slots w h) × (n ≡ slots w h)
-    accepted-curves m n p q =
-        (size, (stated-slots w h t (b ∷ cs) (accepted-stated w h t (b ∷ cs) v (a ∷ ds) e z)).0, p, q)
+    accepted_curves m n p q =
+        (size, (stated_slots w h t (b ∷ cs) (accepted_stated w h t (b ∷ cs) v (a ∷ ds) e z)).0, p, q)
 
-    pub accepted-turns : Told w h t
-    accepted-turns = is-drawing-turns w h t size (accepted-is-drawing w h t (b ∷ cs) v (a ∷ ds) e z)
+    pub accepted_turns : Told w h t
+    accepted_turns = is_drawing_turns w h t size (accepted_is_drawing w h t (b ∷ cs) v (a ∷ ds) e z)
 
   pub countable : Countable v t.parent
   countable = record { falls = falls; some = λ z. omega (arith, long z) }

@@ -4,12 +4,12 @@ use mathlib.Core.Path.{◌≡◌, refl}
 use mathlib.Core.List.{List, [], ◌∷◌, ◌++◌, map}
 use Prim.Native.Nat.{ℕ}
 use lib.ListN.{replicate}
-use Rattle.laws.proofs.Cases.{Case, failed, none-failed}
+use Rattle.laws.proofs.Cases.{Case, failed, none_failed}
 use Rattle.paper.specs.Refusal.{Outcome, ended, seven}
-use Rattle.paper.proofs.Worked.{same_outcome, outcome-equal, refused, none, joined-two, rubbish, works, clean, calls-open}
+use Rattle.paper.proofs.Worked.{same_outcome, outcome_equal, refused, none, joined_two, rubbish, works, clean, calls_open}
 use Rattle.region_depths.specs.Tree.{known}
-use Rattle.region_depths.specs.Census.{countedAt, counts}
-use Rattle.count_call.specs.Tally.{fillRefusal, filled, tallied, traced}
+use Rattle.region_depths.specs.Census.{counted_at, counts}
+use Rattle.count_call.specs.Tally.{fill_refusal, filled, tallied, traced}
 
 tallies : List (Case Outcome)
 tallies =
@@ -30,17 +30,17 @@ tallies =
       stated = refused 5 (seven (rubbish 2) ++ (7 ∷ 7 ∷ []) ∷ (8 ∷ 8 ∷ []) ∷ []) (clean 16);
     }
     ∷ record {
-      computed = tallied 2 1 joined-two (7 ∷ 7 ∷ 7 ∷ []) (8 ∷ 8 ∷ 8 ∷ []) (works 24 24);
-      stated = ended 0 [] (seven joined-two ++ (0 ∷ 1 ∷ none ∷ []) ∷ (1 ∷ 0 ∷ none ∷ []) ∷ []) (clean 24);
+      computed = tallied 2 1 joined_two (7 ∷ 7 ∷ 7 ∷ []) (8 ∷ 8 ∷ 8 ∷ []) (works 24 24);
+      stated = ended 0 [] (seven joined_two ++ (0 ∷ 1 ∷ none ∷ []) ∷ (1 ∷ 0 ∷ none ∷ []) ∷ []) (clean 24);
     }
     ∷ []
 
-tallies-hold : failed same_outcome 0 tallies ≡ []
-unfolding calls-open known countedAt counts fillRefusal filled tallied tallies
-tallies-hold = refl
+tallies_hold : failed same_outcome 0 tallies ≡ []
+unfolding calls_open known counted_at counts fill_refusal filled tallied tallies
+tallies_hold = refl
 
-tally-cases : map (λ (c : Case Outcome). c.computed) tallies ≡ map (λ (c : Case Outcome). c.stated) tallies
-tally-cases = none-failed same_outcome outcome-equal 0 tallies tallies-hold
+tally_cases : map (λ (c : Case Outcome). c.computed) tallies ≡ map (λ (c : Case Outcome). c.stated) tallies
+tally_cases = none_failed same_outcome outcome_equal 0 tallies tallies_hold
 
 -- the two lent tables, of n and m entries
 lent : ℕ → ℕ → List (List ℕ)
@@ -69,15 +69,15 @@ traces =
       stated = refused 5 (seven (rubbish 2) ++ lent 16 16) (clean 16);
     }
     ∷ record {
-      computed = traced 2 1 joined-two (replicate 24 7) (replicate 24 8) (works 24 24);
+      computed = traced 2 1 joined_two (replicate 24 7) (replicate 24 8) (works 24 24);
       stated = ended 0 []
-          (seven joined-two ++ (3 ∷ 0 ∷ replicate 22 none) ∷ (0 ∷ 3 ∷ replicate 22 none) ∷ []) (clean 24);
+          (seven joined_two ++ (3 ∷ 0 ∷ replicate 22 none) ∷ (0 ∷ 3 ∷ replicate 22 none) ∷ []) (clean 24);
     }
     ∷ []
 
-traces-hold : failed same_outcome 0 traces ≡ []
-unfolding calls-open fillRefusal filled traced lent traces
-traces-hold = refl
+traces_hold : failed same_outcome 0 traces ≡ []
+unfolding calls_open fill_refusal filled traced lent traces
+traces_hold = refl
 
-trace-cases : map (λ (c : Case Outcome). c.computed) traces ≡ map (λ (c : Case Outcome). c.stated) traces
-trace-cases = none-failed same_outcome outcome-equal 0 traces traces-hold
+trace_cases : map (λ (c : Case Outcome). c.computed) traces ≡ map (λ (c : Case Outcome). c.stated) traces
+trace_cases = none_failed same_outcome outcome_equal 0 traces traces_hold

@@ -1,5 +1,5 @@
 -- Pieces by the region round them.
---   roundAt s t p   == by the sides s and the tops t, the region round the piece of which p is the least point: the side of the
+--   round_at s t p   == by the sides s and the tops t, the region round the piece of which p is the least point: the side of the
 --                      dart that leads back to p from the east; the mark where p is the least of none
 --   pieces s t r    == how many pieces the region r lies round
 --   Sized s t       == there are four sides for each of the tops
@@ -8,11 +8,11 @@ use Rattle.laws.specs.Table.{count}
 use Rattle.point_darts.specs.Dart.{mark, dart}
 use Rattle.paper.specs.Joining.{at}
 
-unfoldable pub roundAt : List ℕ → List ℕ → ℕ → ℕ
-roundAt s t p = cond (eqb (get_or t p 0) p) (at s (dart (p + 1) 2)) mark
+unfoldable pub round_at : List ℕ → List ℕ → ℕ → ℕ
+round_at s t p = cond (eqb (get_or t p 0) p) (at s (dart (p + 1) 2)) mark
 
 unfoldable pub pieces : List ℕ → List ℕ → ℕ → ℕ
-pieces s t r = count (length t) (λ p. eqb (roundAt s t p) r)
+pieces s t r = count (length t) (λ p. eqb (round_at s t p) r)
 
 pub record Sized (s t : List ℕ) : Type 0 where
   pub four : length s ≡ 4 * length t

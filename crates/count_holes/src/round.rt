@@ -2,7 +2,7 @@
 ghost use Rattle.std.specs.Prelude.{◌≡◌, ◌+◌, ◌<◌, ◌≤◌, length};
 ghost use Rattle.laws.specs.Table.{table};
 ghost use Rattle.point_darts.specs.Dart.{mark, dart};
-ghost use Rattle.count_holes.specs.Round.{roundAt, pieces, Sized};
+ghost use Rattle.count_holes.specs.Round.{round_at, pieces, Sized};
 
 use point_darts::dart;
 use point_darts::dart::Dart;
@@ -13,7 +13,7 @@ use table_entries::entry;
 // which points are least is hard to foresee.
 fn round_at(side: &[u16], tops: &[u16], p: u16) -> u16
     requires { (dart (p + 1) 3 < length side.now) × (length side.now < mark) × (p < length tops.now) }
-    ensures { result ≡ roundAt side.now tops.now p }
+    ensures { result ≡ round_at side.now tops.now p }
 {
     let round = side[dart::first_slot(p + 1) + Dart::WEST as usize];
     if tops[p as usize] == p {

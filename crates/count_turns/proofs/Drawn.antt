@@ -1,6 +1,6 @@
 -- In a drawing the turns up to the next of level 3 are those of the paper, inside the run to the next kept point; and so are, with
 -- the hands exchanged, those from the other end of the run.
---   turnsTo n x e is d == how many turns that pass the test is are taken from dart d on, before x leads to the dart e
+--   turns_to n x e is d == how many turns that pass the test is are taken from dart d on, before x leads to the dart e
 --   turns w h on keep is d == how many the run from d to the next point that passes keep takes inside
 --   Ahead z         == dart z is on, and the run from d goes through it
 --   Told w h t      == the turns counted from the tables t are those of the curves of their sides
@@ -12,26 +12,26 @@ use native.Mathlib.Omega.{arith}
 use lib.Dec.{eqb}
 use borrow.Author.Tests.{eq-eqb, ne_eqb}
 use Rattle.laws.proofs.Test.{clash}
-use Rattle.laws.proofs.Walk.{Run, run-tail, run-ended}
-use Rattle.laws.proofs.Steps.{run-steps, steps-agree, count-is}
+use Rattle.laws.proofs.Walk.{Run, run_tail, run_ended}
+use Rattle.laws.proofs.Steps.{run_steps, steps_agree, count_is}
 use Rattle.sheet_size.specs.Size.{within}
 use Rattle.point_darts.specs.Dart.{mark, slots, point, far}
 use Rattle.point_rules.specs.declared.turn.Turn.{Turn}
-use Rattle.point_rules.specs.Turn.{isRight, isLeft}
+use Rattle.point_rules.specs.Turn.{is_right, is_left}
 use Rattle.paper.specs.Name.{names}
 use Rattle.paper.specs.Level.{Level, border, next, last, plain, along, kept3, among, level, marked}
-use Rattle.paper.specs.Turns.{taken, turns, curveTurns}
-use Rattle.paper.specs.Drawing.{Tables, drawn, drawing, isDrawing}
+use Rattle.paper.specs.Turns.{taken, turns, curve_turns}
+use Rattle.paper.specs.Drawing.{Tables, drawn, drawing, is_drawing}
 use Rattle.paper.specs.Joining.{at, on}
-use Rattle.paper_laws.proofs.Next.{Lines, point-next}
-use Rattle.paper_laws.proofs.Sheet.{border-lines}
-use Rattle.paper_laws.proofs.Marks.{within-fits, at_held, on-marked, marked-agree, next-stays, along-on}
-use Rattle.paper_laws.proofs.Marks.{lines-inside, next_small, along-next-small}
-use Rattle.paper_laws.proofs.Along.{Kept, kept3-kept, run_on, run_ends, run-led, along-chart, other-stays}
-use Rattle.paper_laws.proofs.Drawn.{sides-on}
-use Rattle.paper_laws.proofs.Turns.{turns-other}
-use Rattle.paper_laws.proofs.IsDrawing.{is-drawing-drawn}
-use Rattle.count_turns.specs.Turns.{takenBy, turnsTo, walked, met, turnsAt, turnTable}
+use Rattle.paper_laws.proofs.Next.{Lines, point_next}
+use Rattle.paper_laws.proofs.Sheet.{border_lines}
+use Rattle.paper_laws.proofs.Marks.{within_fits, at_held, on_marked, marked_agree, next_stays, along_on}
+use Rattle.paper_laws.proofs.Marks.{lines_inside, next_small, along_next_small}
+use Rattle.paper_laws.proofs.Along.{Kept, kept3_kept, run_on, run_ends, run_led, along_chart, other_stays}
+use Rattle.paper_laws.proofs.Drawn.{sides_on}
+use Rattle.paper_laws.proofs.Turns.{turns_other}
+use Rattle.paper_laws.proofs.IsDrawing.{is_drawing_drawn}
+use Rattle.count_turns.specs.Turns.{taken_by, turns_to, walked, met, turns_at, turn_table}
 
 module _ (w h : ℕ) (n : List ℕ) (room : slots w h ≤ mark) where
   b : ℕ → Bool
@@ -39,25 +39,25 @@ module _ (w h : ℕ) (n : List ℕ) (room : slots w h ≤ mark) where
 
   lines : Lines w h b
   unfolding b
-  lines = border-lines w h n
+  lines = border_lines w h n
 
   x : List ℕ
   x = marked w h b (next w b)
 
-  on-x : on x ≡ b
+  on_x : on x ≡ b
   unfolding x
-  on-x = fun_ext (on-marked w h b (next w b) (lines-inside w h b lines) (next_small w h b lines room))
+  on_x = fun_ext (on_marked w h b (next w b) (lines_inside w h b lines) (next_small w h b lines room))
 
   at_x : (d : ℕ) → b d ≡ true → at x d ≡ next w b d
   unfolding x
-  at_x = at_held w h b (next w b) (lines-inside w h b lines)
+  at_x = at_held w h b (next w b) (lines_inside w h b lines)
 
-  leads-to : (d : ℕ) → b d ≡ true → point (next w b d) ≡ far w d
-  leads-to d o = point-next w b d (lines.back d o)
+  leads_to : (d : ℕ) → b d ≡ true → point (next w b d) ≡ far w d
+  leads_to d o = point_next w b d (lines.back d o)
 
-  taken-by : (d : ℕ) → b d ≡ true → takenBy x d ≡ taken w b d
-  unfolding takenBy taken
-  taken-by d o = rw (on-x, at_x d o, leads-to d o)
+  taken_by_lem : (d : ℕ) → b d ≡ true → taken_by x d ≡ taken w b d
+  unfolding taken_by taken
+  taken_by_lem d o = rw (on_x, at_x d o, leads_to d o)
 
   -- The run of a dart to the next point that passes keep.
   module _ (keep : ℕ → Bool) (g : Kept w h n keep) (is : Turn → Bool) (d : ℕ) (o : b d ≡ true) where
@@ -77,14 +77,14 @@ module _ (w h : ℕ) (n : List ℕ) (room : slots w h ≤ mark) where
 
     led : (j : ℕ) × (j < slots w h) × Run (next w b) stop j d end
     unfolding b end stop
-    led = run-led w h n keep g d o
+    led = run_led w h n keep g d o
 
     Ahead : ℕ → Type 0
     Ahead z = (b z ≡ true) × (k : ℕ) × Run (next w b) stop k z end
 
     stays : (z : ℕ) → Ahead z → stop z ≡ false → Ahead (next w b z)
     unfolding Ahead
-    stays z (p, k, r) s = let (j, q) = run-tail r s in (next-stays w h b lines z p, j, q)
+    stays z (p, k, r) s = let (j, q) = run_tail r s in (next_stays w h b lines z p, j, q)
 
     -- it is the next of level 3 that x leads to exactly where the run ends
     halts : (z : ℕ) → Ahead z → eqb (at x z) (next w b end) ≡ stop z
@@ -94,21 +94,21 @@ module _ (w h : ℕ) (n : List ℕ) (room : slots w h ≤ mark) where
         apart : keep (far w z) ≡ false → at x z ≡ next w b end → ⊥
         apart s e =
             clash end_kept
-            (ap keep (sym (leads-to end end_on) ∙ ap point (sym e ∙ at_x z p) ∙ leads-to z p) ∙ s)
+            (ap keep (sym (leads_to end end_on) ∙ ap point (sym e ∙ at_x z p) ∙ leads_to z p) ∙ s)
 
         go : (t : Bool) → keep (far w z) ≡ t → eqb (at x z) (next w b end) ≡ t
-        go true s = eq-eqb (at x z) (next w b end) (at_x z p ∙ ap (next w b) (run-ended r s))
+        go true s = eq-eqb (at x z) (next w b end) (at_x z p ∙ ap (next w b) (run_ended r s))
         go false s = ne_eqb (at x z) (next w b end) (apart s)
 
-    turns-drawn : turnsTo (slots w h) x (next w b end) is d ≡ turns w h b keep is d
-    unfolding turnsTo turns Ahead stop
-    turns-drawn =
+    turns_drawn : turns_to (slots w h) x (next w b end) is d ≡ turns w h b keep is d
+    unfolding turns_to turns Ahead stop
+    turns_drawn =
         let (k, l, r) = led in
-        let (c, q) = run-steps (λ z. is (taken w b z)) r in
+        let (c, q) = run_steps (λ z. is (taken w b z)) r in
         let p =
-        steps-agree Ahead stays (λ z. is (taken w b z)) (at x) (λ z. eqb (at x z) (next w b end)) (λ z. is (takenBy x z)) halts
-        (λ z a _. at_x z a.0) (λ z a _. ap is (taken-by z a.0)) q (o, k, r) in
-        count-is p (omega arith) ∙ sym (count-is q (omega arith))
+        steps_agree Ahead stays (λ z. is (taken w b z)) (at x) (λ z. eqb (at x z) (next w b end)) (λ z. is (taken_by x z)) halts
+        (λ z a _. at_x z a.0) (λ z a _. ap is (taken_by_lem z a.0)) q (o, k, r) in
+        count_is p (omega arith) ∙ sym (count_is q (omega arith))
 
   -- The darts of level 3.
   keep : ℕ → Bool
@@ -119,14 +119,14 @@ module _ (w h : ℕ) (n : List ℕ) (room : slots w h ≤ mark) where
 
   kept : Kept w h n keep
   unfolding keep b
-  kept = kept3-kept w h n
+  kept = kept3_kept w h n
 
-  curve-line : (d : ℕ) → curves.on d ≡ true → b d ≡ true
+  curve_line : (d : ℕ) → curves.on d ≡ true → b d ≡ true
   unfolding curves
-  curve-line = along-on w h b lines keep
+  curve_line = along_on w h b lines keep
 
-  curve-below : (d : ℕ) → curves.on d ≡ true → d < slots w h
-  curve-below d e = lines-inside w h b lines d (curve-line d e)
+  curve_below : (d : ℕ) → curves.on d ≡ true → d < slots w h
+  curve_below d e = lines_inside w h b lines d (curve_line d e)
 
   y : List ℕ
   y = marked w h curves.on curves.next
@@ -134,25 +134,25 @@ module _ (w h : ℕ) (n : List ℕ) (room : slots w h ≤ mark) where
   o : List ℕ
   o = marked w h curves.on curves.other
 
-  on-y : (d : ℕ) → on y d ≡ curves.on d
+  on_y : (d : ℕ) → on y d ≡ curves.on d
   unfolding y curves
-  on-y = on-marked w h curves.on curves.next curve-below (along-next-small w h b lines room keep)
+  on_y = on_marked w h curves.on curves.next curve_below (along_next_small w h b lines room keep)
 
   at_y : (d : ℕ) → curves.on d ≡ true → at y d ≡ curves.next d
   unfolding y
-  at_y = at_held w h curves.on curves.next curve-below
+  at_y = at_held w h curves.on curves.next curve_below
 
-  at-o : (d : ℕ) → curves.on d ≡ true → at o d ≡ curves.other d
+  at_o : (d : ℕ) → curves.on d ≡ true → at o d ≡ curves.other d
   unfolding o
-  at-o = at_held w h curves.on curves.other curve-below
+  at_o = at_held w h curves.on curves.other curve_below
 
-  other-on : (d : ℕ) → curves.on d ≡ true → curves.on (curves.other d) ≡ true
+  other_on : (d : ℕ) → curves.on d ≡ true → curves.on (curves.other d) ≡ true
   unfolding curves b
-  other-on = other-stays w h n curves (along-chart w h n keep kept)
+  other_on = other_stays w h n curves (along_chart w h n keep kept)
 
-  walked-drawn : (is : Turn → Bool) (d : ℕ) → curves.on d ≡ true → walked (slots w h) x y is d ≡ turns w h b keep is d
+  walked_drawn : (is : Turn → Bool) (d : ℕ) → curves.on d ≡ true → walked (slots w h) x y is d ≡ turns w h b keep is d
   unfolding walked curves along end
-  walked-drawn is d e = rw (on-y d ∙ e, at_y d e) (turns-drawn keep kept is d (curve-line d e))
+  walked_drawn is d e = rw (on_y d ∙ e, at_y d e) (turns_drawn keep kept is d (curve_line d e))
 
   -- turns that pass one test are those that pass another on the way back
   module _ (is was : Turn → Bool)
@@ -160,32 +160,32 @@ module _ (w h : ℕ) (n : List ℕ) (room : slots w h ≤ mark) where
     by_end : (d : ℕ) → curves.on d ≡ true → (m : Bool)
         → cond m (walked (slots w h) x y was (at o d)) (walked (slots w h) x y is d) ≡ turns w h b keep is d
     by_end d e true =
-        ap (walked (slots w h) x y was) (at-o d e) ∙ walked-drawn was (curves.other d) (other-on d e) ∙ back d e
-    by_end d e false = walked-drawn is d e
+        ap (walked (slots w h) x y was) (at_o d e) ∙ walked_drawn was (curves.other d) (other_on d e) ∙ back d e
+    by_end d e false = walked_drawn is d e
 
-    table-drawn : turnTable w h x y o is was ≡ curveTurns w h b is
-    unfolding turnTable turnsAt curveTurns keep curves marked
-    table-drawn =
-        marked-agree w h (on y) curves.on
-        (λ d. cond (met o d) (walked (slots w h) x y was (at o d)) (walked (slots w h) x y is d)) (turns w h b keep is) on-y
-        (λ d e. by_end d (sym (on-y d) ∙ e) (met o d))
+    table_drawn : turn_table w h x y o is was ≡ curve_turns w h b is
+    unfolding turn_table turns_at curve_turns keep curves marked
+    table_drawn =
+        marked_agree w h (on y) curves.on
+        (λ d. cond (met o d) (walked (slots w h) x y was (at o d)) (walked (slots w h) x y is d)) (turns w h b keep is) on_y
+        (λ d e. by_end d (sym (on_y d) ∙ e) (met o d))
 
 -- Tables that are a drawing.
 abbrev pub Told : ℕ → ℕ → Tables → Type 0
 Told w h t =
-    (turnTable w h t.next1 t.next3 t.other3 isRight isLeft ≡ curveTurns w h (on t.side1) isRight)
-    × (turnTable w h t.next1 t.next3 t.other3 isLeft isRight ≡ curveTurns w h (on t.side1) isLeft)
+    (turn_table w h t.next1 t.next3 t.other3 is_right is_left ≡ curve_turns w h (on t.side1) is_right)
+    × (turn_table w h t.next1 t.next3 t.other3 is_left is_right ≡ curve_turns w h (on t.side1) is_left)
 
-drawing-turns : (w h : ℕ) (s : List ℕ) → slots w h ≤ mark → Told w h (drawing w h s)
+drawing_turns : (w h : ℕ) (s : List ℕ) → slots w h ≤ mark → Told w h (drawing w h s)
 unfolding drawing drawn level plain b x y o keep curves
-drawing-turns w h s room =
+drawing_turns w h s room =
     let n = names w h s in
-    rw (sides-on w h s room) (
-      table-drawn w h n room isRight isLeft (λ d e. (turns-other w h n d e).0),
-      table-drawn w h n room isLeft isRight (λ d e. (turns-other w h n d e).1),
+    rw (sides_on w h s room) (
+      table_drawn w h n room is_right is_left (λ d e. (turns_other w h n d e).0),
+      table_drawn w h n room is_left is_right (λ d e. (turns_other w h n d e).1),
     )
 
-pub is-drawing-turns : (w h : ℕ) (t : Tables) → within w h ≡ true → isDrawing w h t ≡ true → Told w h t
-is-drawing-turns w h t e j =
-    let d = is-drawing-drawn w h t j in
-    rw (← d.same) (drawing-turns w h d.labels (within-fits w h e))
+pub is_drawing_turns : (w h : ℕ) (t : Tables) → within w h ≡ true → is_drawing w h t ≡ true → Told w h t
+is_drawing_turns w h t e j =
+    let d = is_drawing_drawn w h t j in
+    rw (← d.same) (drawing_turns w h d.labels (within_fits w h e))

@@ -4,10 +4,10 @@ ghost use Rattle.std.specs.Prelude.{◌≡◌, true, length};
 ghost use Rattle.laws.specs.Table.{number};
 ghost use Rattle.sheet_size.specs.Size.{within};
 ghost use Rattle.point_darts.specs.Dart.{slots, point, direction};
-ghost use Rattle.point_rules.specs.Turn.{turning, isRight, isLeft};
+ghost use Rattle.point_rules.specs.Turn.{turning, is_right, is_left};
 ghost use Rattle.paper.specs.Level.{mask};
 ghost use Rattle.paper.specs.Joining.{at, on};
-ghost use Rattle.count_turns.specs.Turns.{whole, turnsTo, met, turnsAt, turnTable, Counted};
+ghost use Rattle.count_turns.specs.Turns.{whole, turns_to, met, turns_at, turn_table, Counted};
 
 use point_darts::dart;
 use point_darts::dart::Dart;
@@ -44,7 +44,7 @@ fn turn_into(next: &[u16], dart: u16, after: u16) -> Turn
 
 // A turn, counted by its hand: one to the right or one to the left, or none.
 fn counted(turn: Turn) -> Turns
-    ensures { (result.right ≡ number (isRight turn)) × (result.left ≡ number (isLeft turn)) }
+    ensures { (result.right ≡ number (is_right turn)) × (result.left ≡ number (is_left turn)) }
 {
     match turn {
         Turn::Right => Turns { right: 1, left: 0 },
@@ -58,8 +58,8 @@ fn counted(turn: Turn) -> Turns
 // The turns that are taken from a dart on along next, before the step to the dart at the end, at most so many steps.
 fn run(steps: u16, next: &[u16], start: u16, end: u16) -> Turns
     requires { whole next.now }
-    ensures { (result.right ≡ turnsTo steps next.now end isRight start) ×
-        (result.left ≡ turnsTo steps next.now end isLeft start) }
+    ensures { (result.right ≡ turns_to steps next.now end is_right start) ×
+        (result.left ≡ turns_to steps next.now end is_left start) }
 {
     let mut right: u16 = 0;
     let mut left: u16 = 0;
@@ -103,8 +103,8 @@ fn turns_at(
     d: u16,
 ) -> Turns
     requires { Counted steps next1.now next3.now other3.now d right.now left.now }
-    ensures { (result.right ≡ turnsAt steps next1.now next3.now other3.now isRight isLeft d) ×
-        (result.left ≡ turnsAt steps next1.now next3.now other3.now isLeft isRight d) }
+    ensures { (result.right ≡ turns_at steps next1.now next3.now other3.now is_right is_left d) ×
+        (result.left ≡ turns_at steps next1.now next3.now other3.now is_left is_right d) }
 {
     let end = entry::get(next3, d);
     if end == dart::MARK {
@@ -137,9 +137,9 @@ pub fn all_turns(
     requires { (within width height ≡ true) × (length next1.now ≡ slots width height) ×
         (length right.old ≡ slots width height) × (length left.old ≡ slots width height) }
     ensures { (right.new ≡
-        turnTable width height next1.now next3.now other3.now isRight isLeft) ×
+        turn_table width height next1.now next3.now other3.now is_right is_left) ×
         (left.new ≡
-        turnTable width height next1.now next3.now other3.now isLeft isRight) }
+        turn_table width height next1.now next3.now other3.now is_left is_right) }
 {
     let n = dart::slots(width, height);
     let mut d: u16 = 0;

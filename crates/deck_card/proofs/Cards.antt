@@ -10,10 +10,10 @@ use Rattle.deck_card.specs.Card.{columns, places, long, blank, feed, digit, digi
 use Rattle.deck_card.proofs.Table.{get_d_past}
 
 -- Digits.
-pub digit-less : (n k : ℕ) → 0 < k → digit (n / 10) (k - 1) ≡ digit n k
+pub digit_less : (n k : ℕ) → 0 < k → digit (n / 10) (k - 1) ≡ digit n k
 unfolding digit
-digit-less n zero h = absurd (omega arith)
-digit-less n (suc k) h = let e : suc k - 1 ≡ k = omega arith in rw e
+digit_less n zero h = absurd (omega arith)
+digit_less n (suc k) h = let e : suc k - 1 ≡ k = omega arith in rw e
 
 pub length_digits : (k n : ℕ) → length (digits k n) ≡ k
 unfolding digits
@@ -21,64 +21,64 @@ length_digits zero n = refl
 length_digits (suc k) n = ap suc (length_digits k n)
 
 -- the digit at place i has j digits after it
-pub getD-digits : (n k i j : ℕ) → suc (i + j) ≡ k → get_or (digits k n) i 0 ≡ digit n j
+pub get_or_digits : (n k i j : ℕ) → suc (i + j) ≡ k → get_or (digits k n) i 0 ≡ digit n j
 unfolding digits
-getD-digits n zero i j e = absurd (omega arith)
-getD-digits n (suc k) zero j e = let q : k ≡ j = omega arith in rw q
-getD-digits n (suc k) (suc i) j e = getD-digits n k i j (omega arith)
+get_or_digits n zero i j e = absurd (omega arith)
+get_or_digits n (suc k) zero j e = let q : k ≡ j = omega arith in rw q
+get_or_digits n (suc k) (suc i) j e = get_or_digits n k i j (omega arith)
 
 -- The card numbered k with a content c that fits it.
 module _ (k : ℕ) (c : List ℕ) (fits : length c ≤ columns) where
-  pub length-padded : length (padded c) ≡ columns
+  pub length_padded : length (padded c) ≡ columns
   unfolding padded
-  length-padded = simp (length-append, length-replicate) (omega arith)
+  length_padded = simp (length-append, length-replicate) (omega arith)
 
-  pub length-card : length (card k c) ≡ long
+  pub length_card : length (card k c) ≡ long
   unfolding card long
-  length-card = simp (length-append, length-padded, length_digits) (omega arith)
+  length_card = simp (length-append, length_padded, length_digits) (omega arith)
 
-  card-front : (i : ℕ) → i < columns → get_or (card k c) i 0 ≡ get_or (padded c) i 0
+  card_front : (i : ℕ) → i < columns → get_or (card k c) i 0 ≡ get_or (padded c) i 0
   unfolding card
-  card-front i h = get_or-append (padded c) _ 0 i (rw length-padded h)
+  card_front i h = get_or-append (padded c) _ 0 i (rw length_padded h)
 
   -- a column that the content reaches
-  pub card-content : (i : ℕ) → i < length c → get_or (card k c) i 0 ≡ get_or c i 0
+  pub card_content : (i : ℕ) → i < length c → get_or (card k c) i 0 ≡ get_or c i 0
   unfolding padded
-  card-content i h = card-front i (omega arith) ∙ get_or-append c _ 0 i h
+  card_content i h = card_front i (omega arith) ∙ get_or-append c _ 0 i h
 
   -- a column after the content
-  pub card-blank : (i : ℕ) → length c ≤ i → i < columns → get_or (card k c) i 0 ≡ blank
+  pub card_blank : (i : ℕ) → length c ≤ i → i < columns → get_or (card k c) i 0 ≡ blank
   unfolding padded
-  card-blank i h b =
-      card-front i b ∙ get_d_past c _ i h ∙ get_or-replicate (columns - length c) (i - length c) blank 0 (omega arith)
+  card_blank i h b =
+      card_front i b ∙ get_d_past c _ i h ∙ get_or-replicate (columns - length c) (i - length c) blank 0 (omega arith)
 
-  card-back : (i : ℕ) → columns ≤ i → get_or (card k c) i 0 ≡ get_or (digits places k ++ (feed ∷ [])) (i - columns) 0
+  card_back : (i : ℕ) → columns ≤ i → get_or (card k c) i 0 ≡ get_or (digits places k ++ (feed ∷ [])) (i - columns) 0
   unfolding card
-  card-back i h = get_d_past (padded c) _ i (rw length-padded h) ∙ rw length-padded
+  card_back i h = get_d_past (padded c) _ i (rw length_padded h) ∙ rw length_padded
 
   -- a column of the number
-  pub card-digit : (i : ℕ) → columns ≤ i → i < columns + places
+  pub card_digit : (i : ℕ) → columns ≤ i → i < columns + places
       → get_or (card k c) i 0 ≡ digit k (columns + places - 1 - i)
-  card-digit i h b =
-      card-back i h ∙ get_or-append (digits places k) _ 0 (i - columns) (rw length_digits (omega arith))
-      ∙ getD-digits k places (i - columns) _ (omega arith)
+  card_digit i h b =
+      card_back i h ∙ get_or-append (digits places k) _ 0 (i - columns) (rw length_digits (omega arith))
+      ∙ get_or_digits k places (i - columns) _ (omega arith)
 
   -- the line feed
-  pub card-feed : (i : ℕ) → columns + places ≤ i → i < long → get_or (card k c) i 0 ≡ feed
+  pub card_feed : (i : ℕ) → columns + places ≤ i → i < long → get_or (card k c) i 0 ≡ feed
   unfolding long
-  card-feed i h b =
+  card_feed i h b =
       let e : i - columns - length (digits places k) ≡ 0 = omega (arith, length_digits places k) in
-      card-back i (omega arith) ∙ get_d_past (digits places k) _ (i - columns) (rw length_digits (omega arith)) ∙ rw e
+      card_back i (omega arith) ∙ get_d_past (digits places k) _ (i - columns) (rw length_digits (omega arith)) ∙ rw e
 
   -- its content's columns, and those of its number
-  pub card-columns : slice 0 columns (card k c) ≡ padded c
+  pub card_columns : slice 0 columns (card k c) ≡ padded c
   unfolding card
-  card-columns = take_at (padded c) _ columns length-padded
+  card_columns = take_at (padded c) _ columns length_padded
 
-  pub card-number : slice columns (columns + places) (card k c) ≡ digits places k
+  pub card_number : slice columns (columns + places) (card k c) ≡ digits places k
   unfolding card
-  card-number =
+  card_number =
       let number = take_at (digits places k) _ places (length_digits places k) in
-      ap (λ n. drop columns (take (n + places) (card k c))) (sym length-padded)
+      ap (λ n. drop columns (take (n + places) (card k c))) (sym length_padded)
       ∙ ap (drop columns) (take-append-add (padded c) _ places ∙ ap (λ l. padded c ++ l) number)
-      ∙ drop_at (padded c) (digits places k) columns length-padded
+      ∙ drop_at (padded c) (digits places k) columns length_padded

@@ -15,42 +15,42 @@ use borrow.Author.Tests.{eq-eqb, ne_eqb, le-leb, lt-leb, leb-true}
 use Rattle.laws.specs.Equal.{equal}
 use Rattle.laws.specs.Every.{every}
 use Rattle.laws.proofs.Test.{and_left, and_right}
-use Rattle.deck_card.specs.Card.{blank, lowest, highest, fromTo, visible}
+use Rattle.deck_card.specs.Card.{blank, lowest, highest, from_to, visible}
 
 -- A test of a range.
-pub from-to-below : (a b n : ℕ) → n < a → fromTo a b n ≡ false
-unfolding fromTo
-from-to-below a b n h = rw (lt-leb a n h)
+pub from_to_below : (a b n : ℕ) → n < a → from_to a b n ≡ false
+unfolding from_to
+from_to_below a b n h = rw (lt-leb a n h)
 
-pub from-to-above : (a b n : ℕ) → b < n → fromTo a b n ≡ false
-unfolding fromTo
-from-to-above a b n h = rw (lt-leb n b h) (and-false (leb a n))
+pub from_to_above : (a b n : ℕ) → b < n → from_to a b n ≡ false
+unfolding from_to
+from_to_above a b n h = rw (lt-leb n b h) (and-false (leb a n))
 
-pub from-to-inside : (a b n : ℕ) → a ≤ n → n ≤ b → fromTo a b n ≡ true
-unfolding fromTo
-from-to-inside a b n h k = rw (le-leb a n h, le-leb n b k)
+pub from_to_inside : (a b n : ℕ) → a ≤ n → n ≤ b → from_to a b n ≡ true
+unfolding from_to
+from_to_inside a b n h k = rw (le-leb a n h, le-leb n b k)
 
-pub visible-most : (n : ℕ) → visible n ≡ true → n ≤ highest
-unfolding visible fromTo
-visible-most n e = leb-true n highest (and_right (leb lowest n) (leb n highest) e)
+pub visible_most : (n : ℕ) → visible n ≡ true → n ≤ highest
+unfolding visible from_to
+visible_most n e = leb-true n highest (and_right (leb lowest n) (leb n highest) e)
 
 -- The lists l and m, both at least e long, from i up to e.
 module _ (l m : List ℕ) (e : ℕ) (h : e ≤ length l) (k : e ≤ length m) where
   -- entries that differ
-  pub equal-stop : (i : ℕ) → i < e → (get_or l i 0 ≡ get_or m i 0 → ⊥) → equal (slice i e l) (slice i e m) ≡ false
+  pub equal_stop : (i : ℕ) → i < e → (get_or l i 0 ≡ get_or m i 0 → ⊥) → equal (slice i e l) (slice i e m) ≡ false
   unfolding equal
-  equal-stop i b n = rw (slice-cons i e l 0 b h, slice-cons i e m 0 b k, ne_eqb _ _ n)
+  equal_stop i b n = rw (slice-cons i e l 0 b h, slice-cons i e m 0 b k, ne_eqb _ _ n)
 
   -- entries that are equal: the rest decides
-  pub equal-go : (i : ℕ) → i < e → get_or l i 0 ≡ get_or m i 0
+  pub equal_go : (i : ℕ) → i < e → get_or l i 0 ≡ get_or m i 0
       → equal (slice (i + 1) e l) (slice (i + 1) e m) ≡ equal (slice i e l) (slice i e m)
   unfolding equal
-  equal-go i b q = rw (slice-cons i e l 0 b h, slice-cons i e m 0 b k, eq-eqb _ _ q, add-one)
+  equal_go i b q = rw (slice-cons i e l 0 b h, slice-cons i e m 0 b k, eq-eqb _ _ q, add-one)
 
 -- nothing is left to compare
-pub equal-end : (l m : List ℕ) (e i : ℕ) → i ≡ e → equal (slice i e l) (slice i e m) ≡ true
+pub equal_end : (l m : List ℕ) (e i : ℕ) → i ≡ e → equal (slice i e l) (slice i e m) ≡ true
 unfolding equal
-equal-end l m e i q = rw (q, slice_empty e l, slice_empty e m)
+equal_end l m e i q = rw (q, slice_empty e l, slice_empty e m)
 
 -- Parts of a list whose entries all pass, and two such lists.
 pub every_take : (p : ℕ → Bool) (n : ℕ) (l : List ℕ) → every p l ≡ true → every p (take n l) ≡ true
@@ -72,25 +72,25 @@ every_append p (x ∷ l) m e f =
     rw (and_left (p x) (every p l) e) (every_append p l m (and_right (p x) (every p l) e) f)
 
 -- labels that may stand in a cell are bytes
-pub labels-bytes : (l : List ℕ) → every visible l ≡ true → (i : ℕ) → get_or l i 0 < 256
+pub labels_bytes : (l : List ℕ) → every visible l ≡ true → (i : ℕ) → get_or l i 0 < 256
 unfolding every highest
-labels-bytes [] e i = omega arith
-labels-bytes (x ∷ l) e zero = let b = visible-most x (and_left (visible x) (every visible l) e) in omega arith
-labels-bytes (x ∷ l) e (suc i) = labels-bytes l (and_right (visible x) (every visible l) e) i
+labels_bytes [] e i = omega arith
+labels_bytes (x ∷ l) e zero = let b = visible_most x (and_left (visible x) (every visible l) e) in omega arith
+labels_bytes (x ∷ l) e (suc i) = labels_bytes l (and_right (visible x) (every visible l) e) i
 
 -- blanks, and nothing else
-pub every-blanks : (n : ℕ) → every (fromTo blank blank) (replicate n blank) ≡ true
+pub every_blanks : (n : ℕ) → every (from_to blank blank) (replicate n blank) ≡ true
 unfolding every
-every-blanks zero = refl
-every-blanks (suc n) = rw (from-to-inside blank blank blank (le_refl _) (le_refl _)) (every-blanks n)
+every_blanks zero = refl
+every_blanks (suc n) = rw (from_to_inside blank blank blank (le_refl _) (le_refl _)) (every_blanks n)
 
-pub every-blank : (l : List ℕ) → every (fromTo blank blank) l ≡ true → l ≡ replicate (length l) blank
-unfolding every fromTo
-every-blank [] e = refl
-every-blank (x ∷ l) e =
-    let p = and_left (fromTo blank blank x) (every (fromTo blank blank) l) e in
+pub every_blank : (l : List ℕ) → every (from_to blank blank) l ≡ true → l ≡ replicate (length l) blank
+unfolding every from_to
+every_blank [] e = refl
+every_blank (x ∷ l) e =
+    let p = and_left (from_to blank blank x) (every (from_to blank blank) l) e in
     let b = leb-true blank x (and_left (leb blank x) (leb x blank) p) in
     let t = leb-true x blank (and_right (leb blank x) (leb x blank) p) in
     let s : x ≡ blank = omega arith in
-    let q = every-blank l (and_right (fromTo blank blank x) (every (fromTo blank blank) l) e) in
+    let q = every_blank l (and_right (from_to blank blank x) (every (from_to blank blank) l) e) in
     λ i. s i ∷ q i

@@ -9,10 +9,10 @@ use Rattle.deck_card.specs.declared.answer.Read.{Read}
 use Rattle.deck_card.specs.declared.answer.Read.TheVariants as read
 use Rattle.deck_card.specs.declared.answer.Written.{Written}
 use Rattle.deck_card.specs.declared.answer.Written.TheVariants as written
-use Rattle.deck_card.specs.Outcome.{DeckOutcome, readOutcome, writeNumber, writeOutcome}
+use Rattle.deck_card.specs.Outcome.{DeckOutcome, read_outcome, write_number, write_outcome}
 
-pub read_one : (a b : Read) (t u : List ℕ) → readOutcome a t ≡ readOutcome b u → (a ≡ b) × (t ≡ u)
-unfolding readOutcome
+pub read_one : (a b : Read) (t u : List ℕ) → read_outcome a t ≡ read_outcome b u → (a ≡ b) × (t ≡ u)
+unfolding read_outcome
 read_one (read.Sheet w h) (read.Sheet a b) t u e =
     let v = ap (λ (o : DeckOutcome). o.values) e in
     (cc, ap (λ (o : DeckOutcome). o.table) e)
@@ -34,16 +34,16 @@ told n =
     cond (eqb n 0) written.Done
     (cond (eqb n 1) written.Size (cond (eqb n 3) written.Sheet (cond (eqb n 4) written.Deck written.Label)))
 
-told-number : (a : Written) → told (writeNumber a) ≡ a
+told_number : (a : Written) → told (write_number a) ≡ a
 unfolding told
-told-number written.Done = refl
-told-number written.Size = refl
-told-number written.Sheet = refl
-told-number written.Deck = refl
-told-number written.Label = refl
+told_number written.Done = refl
+told_number written.Size = refl
+told_number written.Sheet = refl
+told_number written.Deck = refl
+told_number written.Label = refl
 
-pub write-one : (a b : Written) (t u : List ℕ) → writeOutcome a t ≡ writeOutcome b u → (a ≡ b) × (t ≡ u)
-unfolding writeOutcome
-write-one a b t u e =
+pub write_one : (a b : Written) (t u : List ℕ) → write_outcome a t ≡ write_outcome b u → (a ≡ b) × (t ≡ u)
+unfolding write_outcome
+write_one a b t u e =
     let n = ap (λ (o : DeckOutcome). o.number) e in
-    (sym (told-number a) ∙ ap told n ∙ told-number b, ap (λ (o : DeckOutcome). o.table) e)
+    (sym (told_number a) ∙ ap told n ∙ told_number b, ap (λ (o : DeckOutcome). o.table) e)

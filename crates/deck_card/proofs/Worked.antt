@@ -5,27 +5,27 @@ use mathlib.Core.List.{List, [], ◌∷◌, ◌++◌, map}
 use Prim.Native.Nat.{ℕ}
 use lib.ListN.{take, replicate}
 use Rattle.laws.specs.Equal.{equal}
-use Rattle.laws.proofs.Cases.{Case, failed, none-failed}
-use Rattle.laws.proofs.Equal.{equal-true}
-use Rattle.deck_card.specs.Card.{columns, places, long, feed, whole, measured, part, partRefusal}
+use Rattle.laws.proofs.Cases.{Case, failed, none_failed}
+use Rattle.laws.proofs.Equal.{equal_true}
+use Rattle.deck_card.specs.Card.{columns, places, long, feed, whole, measured, part, part_refusal}
 
 row : List ℕ
 row = 65 ∷ 66 ∷ replicate 70 32 ++ replicate 7 48 ++ 50 ∷ 10 ∷ []
 
 parts : List (Case (List ℕ))
 parts =
-    record { computed = partRefusal 0 [] ∷ part 0 []; stated = 1 ∷ [] }
-    ∷ record { computed = partRefusal 73 row ∷ part 73 row; stated = 1 ∷ [] }
-    ∷ record { computed = partRefusal 2 (take 80 row) ∷ part 2 (take 80 row); stated = 20 ∷ [] }
-    ∷ record { computed = partRefusal 2 (10 ∷ row) ∷ part 2 (10 ∷ row); stated = 20 ∷ [] }
-    ∷ record { computed = partRefusal 2 (take 80 row ++ 32 ∷ []) ∷ part 2 (take 80 row ++ 32 ∷ []); stated = 20 ∷ [] }
-    ∷ record { computed = partRefusal 2 row ∷ part 2 row; stated = 0 ∷ 65 ∷ 66 ∷ [] }
-    ∷ record { computed = partRefusal 72 row ∷ part 72 row; stated = 0 ∷ 65 ∷ 66 ∷ replicate 70 32 }
+    record { computed = part_refusal 0 [] ∷ part 0 []; stated = 1 ∷ [] }
+    ∷ record { computed = part_refusal 73 row ∷ part 73 row; stated = 1 ∷ [] }
+    ∷ record { computed = part_refusal 2 (take 80 row) ∷ part 2 (take 80 row); stated = 20 ∷ [] }
+    ∷ record { computed = part_refusal 2 (10 ∷ row) ∷ part 2 (10 ∷ row); stated = 20 ∷ [] }
+    ∷ record { computed = part_refusal 2 (take 80 row ++ 32 ∷ []) ∷ part 2 (take 80 row ++ 32 ∷ []); stated = 20 ∷ [] }
+    ∷ record { computed = part_refusal 2 row ∷ part 2 row; stated = 0 ∷ 65 ∷ 66 ∷ [] }
+    ∷ record { computed = part_refusal 72 row ∷ part 72 row; stated = 0 ∷ 65 ∷ 66 ∷ replicate 70 32 }
     ∷ []
 
-parts-hold : failed equal 0 parts ≡ []
-unfolding failed equal columns places long feed whole measured part partRefusal row parts
-parts-hold = refl
+parts_hold : failed equal 0 parts ≡ []
+unfolding failed equal columns places long feed whole measured part part_refusal row parts
+parts_hold = refl
 
-part-cases : map (λ (c : Case (List ℕ)). c.computed) parts ≡ map (λ (c : Case (List ℕ)). c.stated) parts
-part-cases = none-failed equal equal-true 0 parts parts-hold
+part_cases : map (λ (c : Case (List ℕ)). c.computed) parts ≡ map (λ (c : Case (List ℕ)). c.stated) parts
+part_cases = none_failed equal equal_true 0 parts parts_hold

@@ -3,7 +3,7 @@
 --   places          == how many columns after those hold the digits of its number: columns 73 to 80
 --   long            == the length of a card, its line feed included
 --   blank, feed     == the bytes of a blank and of a line feed
---   fromTo a b n    == n is from a to b
+--   from_to a b n    == n is from a to b
 --   visible         == may stand in a cell: from the lowest such byte, 33, to the highest, 126
 --   digit n k       == the byte of the decimal digit of n that has k digits after it
 --   digits k n      == the last k digits of n
@@ -12,7 +12,7 @@
 --   whole c         == c is 80 bytes and a line feed
 --   measured w      == w is how many cells a card can hold: 1 to 72
 --   part w c        == the first w bytes of c where w is so many cells and c is whole, else nothing
---   partRefusal w c == 1 or 20 where the part is empty for that reason, in this order, else 0
+--   part_refusal w c == 1 or 20 where the part is empty for that reason, in this order, else 0
 use Rattle.std.specs.Prelude.{Bool, cond, ◌&&◌, List, [], ◌∷◌, ◌++◌, ℕ, zero, suc, ◌+◌, ◌-◌, ◌/◌, ◌%◌, eqb, leb, length, get_or, take, replicate}
 
 unfoldable pub columns : ℕ
@@ -30,8 +30,8 @@ blank = 32
 unfoldable pub feed : ℕ
 feed = 10
 
-unfoldable pub fromTo : ℕ → ℕ → ℕ → Bool
-fromTo a b n = leb a n && leb n b
+unfoldable pub from_to : ℕ → ℕ → ℕ → Bool
+from_to a b n = leb a n && leb n b
 
 unfoldable pub lowest : ℕ
 lowest = 33
@@ -40,7 +40,7 @@ unfoldable pub highest : ℕ
 highest = 126
 
 unfoldable pub visible : ℕ → Bool
-visible = fromTo lowest highest
+visible = from_to lowest highest
 
 unfoldable pub digit : ℕ → ℕ → ℕ
 digit n zero = 48 + n % 10
@@ -65,5 +65,5 @@ measured w = leb 1 w && leb w columns
 unfoldable pub part : ℕ → List ℕ → List ℕ
 part w c = cond (measured w && whole c) (take w c) []
 
-unfoldable pub partRefusal : ℕ → List ℕ → ℕ
-partRefusal w c = cond (measured w) (cond (whole c) 0 20) 1
+unfoldable pub part_refusal : ℕ → List ℕ → ℕ
+part_refusal w c = cond (measured w) (cond (whole c) 0 20) 1

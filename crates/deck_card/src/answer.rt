@@ -1,5 +1,5 @@
 ghost use Rattle.std.specs.Prelude.{◌≡◌};
-ghost use Rattle.deck_card.specs.Outcome.{writeNumber};
+ghost use Rattle.deck_card.specs.Outcome.{write_number};
 
 // What reading a deck answers.
 #[derive(Drop)]
@@ -27,7 +27,7 @@ pub enum Written {
 impl Written {
     // The number of the refusal, 0 for done.
     pub fn number(self) -> u16
-        ensures { result ≡ writeNumber self }
+        ensures { result ≡ write_number self }
     {
         match self {
             Written::Done => 0,

@@ -2,7 +2,7 @@ ghost use Rattle.std.specs.Prelude.{◌≡◌, ℕ, ◌≤◌, ◌<◌, length, 
 ghost use Rattle.std.proofs.Math.Seq.{slice};
 ghost use Rattle.laws.specs.Equal.{equal};
 ghost use Rattle.laws.specs.Every.{every};
-ghost use Rattle.deck_card.specs.Card.{columns, long, fromTo, digit, card};
+ghost use Rattle.deck_card.specs.Card.{columns, long, from_to, digit, card};
 
 use crate::card::{BLANK, COLUMNS, FEED, PLACES};
 
@@ -68,7 +68,7 @@ pub fn put(bytes: &mut [u8], content: &[u16], number: u16)
 
 // Whether each byte is from the low one to the high one.
 pub fn all_between(bytes: &[u8], low: u8, high: u8) -> bool
-    ensures { result ≡ every (fromTo low high) bytes.now }
+    ensures { result ≡ every (from_to low high) bytes.now }
 {
     let mut i = 0;
     while i < bytes.len() {

@@ -1,5 +1,5 @@
 ghost use Rattle.std.specs.Prelude.{◌≡◌};
-ghost use Rattle.deck_card.specs.Card.{whole, part, partRefusal};
+ghost use Rattle.deck_card.specs.Card.{whole, part, part_refusal};
 
 // Columns 1 to 72 hold a card's content.
 pub const COLUMNS: usize = 72;
@@ -32,7 +32,7 @@ pub fn whole(bytes: &[u8]) -> bool
 // The number of the refusal for which a part is empty: 1 where the width, how many cells this card holds, is not 1 to 72, 20
 // where the card is not 80 bytes and a line feed, in this order; else 0.
 pub fn part_refusal(width: u16, card: &[u8]) -> u16
-    ensures { result ≡ partRefusal width card.now }
+    ensures { result ≡ part_refusal width card.now }
 {
     let cells = width as usize;
     if cells < 1 {

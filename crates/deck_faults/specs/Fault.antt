@@ -5,7 +5,7 @@
 --   form k c        == the refusal of the form of the card numbered k, whatever its content: 25 not there, 20 not whole, so
 --                      not 80 bytes and a line feed, 22 not bearing its number
 --   value c p       == the number whose two digits are the bytes of c at the place p and the next
---   wideForm c      == column 6 of a header is a 2
+--   wide_form c      == column 6 of a header is a 2
 --   width c, height c == the values of columns 7-8 and 9-10 of a header, in the wide form of 7-9 and 10-11
 --   headed c        == these are a size, and columns 1 to 72 are laid out as the header of this size: so these columns are
 --                      digits, and the form is that of the width
@@ -16,7 +16,7 @@ use Rattle.std.specs.Prelude.{Bool, cond, ◌&&◌, List, ℕ, zero, suc, ◌+�
 use Rattle.laws.specs.Equal.{equal}
 use Rattle.sheet_size.specs.Size.{within}
 use Rattle.laws.specs.Every.{every}
-use Rattle.deck_card.specs.Card.{columns, places, blank, fromTo, visible, digits, padded, whole}
+use Rattle.deck_card.specs.Card.{columns, places, blank, from_to, visible, digits, padded, whole}
 use Rattle.deck_layout.specs.Layout.{heading}
 
 unfoldable pub or_else : ℕ → ℕ → ℕ
@@ -32,14 +32,14 @@ form k c = cond (eqb (length c) 0) 25 (cond (whole c) (cond (bears k c) 0 22) 20
 unfoldable pub value : List ℕ → ℕ → ℕ
 value c p = 10 * (get_or c p 0 - 48) + (get_or c (p + 1) 0 - 48)
 
-unfoldable pub wideForm : List ℕ → Bool
-wideForm c = eqb (get_or c 5 0) 50
+unfoldable pub wide_form : List ℕ → Bool
+wide_form c = eqb (get_or c 5 0) 50
 
 unfoldable pub width : List ℕ → ℕ
-width c = cond (wideForm c) (10 * value c 6 + (get_or c 8 0 - 48)) (value c 6)
+width c = cond (wide_form c) (10 * value c 6 + (get_or c 8 0 - 48)) (value c 6)
 
 unfoldable pub height : List ℕ → ℕ
-height c = cond (wideForm c) (value c 9) (value c 8)
+height c = cond (wide_form c) (value c 9) (value c 8)
 
 unfoldable pub headed : List ℕ → Bool
 headed c = within (width c) (height c) && equal (take columns c) (padded (heading (width c) (height c)))
@@ -50,4 +50,4 @@ header c = or_else (form 1 c) (cond (headed c) 0 21)
 unfoldable pub row : ℕ → ℕ → List ℕ → ℕ
 row w k c =
     or_else (form k c)
-    (cond (every visible (take w c)) (cond (every (fromTo blank blank) (drop w (take columns c))) 0 24) 23)
+    (cond (every visible (take w c)) (cond (every (from_to blank blank) (drop w (take columns c))) 0 24) 23)

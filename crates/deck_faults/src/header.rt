@@ -1,6 +1,6 @@
 ghost use Rattle.std.specs.Prelude.{◌≡◌, ◌-◌, ◌≤◌, ◌<◌, get_or};
 ghost use Rattle.deck_card.specs.Card.{columns};
-ghost use Rattle.deck_faults.specs.Fault.{value, wideForm, width, height, header};
+ghost use Rattle.deck_faults.specs.Fault.{value, wide_form, width, height, header};
 
 use crate::form;
 use deck_card::bytes;
@@ -30,7 +30,7 @@ fn value(card: &[u8], place: usize) -> u16
 
 // Whether a header has the wide form: SHEET2.
 fn wide_form(card: &[u8]) -> bool
-    ensures { result ≡ wideForm card.now }
+    ensures { result ≡ wide_form card.now }
 {
     at(card, 5) == 50
 }

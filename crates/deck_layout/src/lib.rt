@@ -1,7 +1,7 @@
 // How a sheet is laid out on cards: which columns its header has, how many cards hold its rows, and how many cells each.
 ghost use Rattle.std.specs.Prelude.{◌≡◌, true};
 ghost use Rattle.sheet_size.specs.Size.{within};
-ghost use Rattle.deck_layout.specs.Layout.{wide, heading, rowCards, held};
+ghost use Rattle.deck_layout.specs.Layout.{wide, heading, row_cards, held};
 
 use deck_card::{bytes, card};
 
@@ -20,7 +20,7 @@ fn wide(width: u16) -> bool
 // How many cards hold the rows of a sheet.
 pub fn row_cards(width: u16, height: u16) -> u16
     requires { within width height ≡ true }
-    ensures { result ≡ rowCards width height }
+    ensures { result ≡ row_cards width height }
 {
     if wide(width) { 2 * height } else { height }
 }

@@ -14,9 +14,9 @@ use Rattle.deck_card.specs.declared.answer.Read.{Read}
 use Rattle.deck_card.specs.declared.answer.Read.TheVariants.{Sheet, Refused}
 use Rattle.deck_card.specs.Card.{long, whole}
 use Rattle.deck_card.proofs.Parts.{whole_is}
-use Rattle.deck_layout.specs.Layout.{rowCards, held}
+use Rattle.deck_layout.specs.Layout.{row_cards, held}
 use Rattle.deck_faults.specs.Fault.{width, height, header, row}
-use Rattle.deck_faults.proofs.Forms.{form-none, header-form, header-within, row-form}
+use Rattle.deck_faults.proofs.Forms.{form_none, header_form, header_within, row_form}
 use Rattle.deck_reading.specs.Judging.{stopped, rows, judged}
 
 -- A refusal stops the reading; none lets it go on.
@@ -31,7 +31,7 @@ stopped_none m k r e = rw e
 
 -- A whole card at the front of the bytes.
 pub first-whole : (d : List ℕ) → whole (take long d) ≡ true → long ≤ length d
-first-whole d e = let n = sym (length-take long d) ∙ (whole_is (take long d) e).length-is in omega arith
+first-whole d e = let n = sym (length-take long d) ∙ (whole_is (take long d) e).length_is in omega arith
 
 module _ (w h k : ℕ) (d : List ℕ) where
   -- the next card is refused
@@ -61,7 +61,7 @@ module _ (w h k : ℕ) (d : List ℕ) where
 
   -- a card that is not refused is whole
   pub row-whole : row (held w k) k (take long d) ≡ 0 → long ≤ length d
-  row-whole e = first-whole d (form-none k (take long d) (row-form (held w k) k (take long d) e)).whole_is
+  row-whole e = first-whole d (form_none k (take long d) (row_form (held w k) k (take long d) e)).whole_is
 
 module _ (d : List ℕ) where
   -- the header is refused
@@ -72,12 +72,12 @@ module _ (d : List ℕ) where
   -- the header is not refused: the rows decide
   pub judged-go : header (take long d) ≡ 0
       → let c = take long d in
-      rows (width c) (height c) (rowCards (width c) (height c)) 2 (drop long d) ≡ judged d
+      rows (width c) (height c) (row_cards (width c) (height c)) 2 (drop long d) ≡ judged d
   unfolding judged
   judged-go e = sym (stopped_none _ 1 _ e)
 
   pub header-whole : header (take long d) ≡ 0 → long ≤ length d
-  header-whole e = first-whole d (form-none 1 (take long d) (header-form (take long d) e)).whole_is
+  header-whole e = first-whole d (form_none 1 (take long d) (header_form (take long d) e)).whole_is
 
 -- Answers that are a sheet.
 pub stopped-sheet : (m k w h : ℕ) (r : Read) → stopped m k r ≡ Sheet w h → (m ≡ 0) × (r ≡ Sheet w h)
@@ -116,19 +116,19 @@ pub record Deck (w h : ℕ) (d : List ℕ) : Type 0 where
   pub wide : width (take long d) ≡ w
   pub high : height (take long d) ≡ h
   pub size : within w h ≡ true
-  pub body : rows w h (rowCards w h) 2 (drop long d) ≡ Sheet w h
+  pub body : rows w h (row_cards w h) 2 (drop long d) ≡ Sheet w h
 
 pub judged-sheet : (w h : ℕ) (d : List ℕ) → judged d ≡ Sheet w h → Deck w h d
 unfolding judged
 judged-sheet w h d e =
     let c = take long d in
     let p = stopped-sheet (header c) 1 w h _ e in
-    let q = rows-size (width c) (height c) (rowCards (width c) (height c)) 2 w h (drop long d) p.1 in
+    let q = rows-size (width c) (height c) (row_cards (width c) (height c)) 2 w h (drop long d) p.1 in
     record {
       head = p.0;
       wide = q.0;
       high = q.1;
-      size = rw (← q.0, ← q.1) (header-within c p.0);
+      size = rw (← q.0, ← q.1) (header_within c p.0);
       body = rw (q.0, q.1) at p.1;
     }
 
@@ -148,10 +148,10 @@ rows-refused w h zero k m j d e q = go (eqb (length d) 0) e
 rows-refused w h (suc n) k m j d e q =
     stopped-refused (row (held w k) k (take long d)) k m j _ (rows-refused w h n (suc k) m j (drop long d)) e q
 
-pub judged-refused : (d : List ℕ) (n k : ℕ) → judged d ≡ Refused n k → n ≡ 0 → ⊥
+pub judged_refused : (d : List ℕ) (n k : ℕ) → judged d ≡ Refused n k → n ≡ 0 → ⊥
 unfolding judged
-judged-refused d n k e q =
+judged_refused d n k e q =
     let c = take long d in
     let w = width c in
     let h = height c in
-    stopped-refused (header c) 1 n k _ (rows-refused w h (rowCards w h) 2 n k (drop long d)) e q
+    stopped-refused (header c) 1 n k _ (rows-refused w h (row_cards w h) 2 n k (drop long d)) e q

@@ -8,14 +8,14 @@ use lib.Seq.{take_at, length-take-le}
 use Rattle.deck_card.proofs.Table.{get_d_past}
 
 module _ (from : ℕ) (l : List ℕ) (h : from ≤ length l) where
-  pub length-cleared : length (take from l ++ replicate (length l - from) 0) ≡ length l
-  length-cleared = simp (length-append, length-take-le from l h, length-replicate) (omega arith)
+  pub length_cleared : length (take from l ++ replicate (length l - from) 0) ≡ length l
+  length_cleared = simp (length-append, length-take-le from l h, length-replicate) (omega arith)
 
-  pub cleared-front : take from l ≡ take from (take from l ++ replicate (length l - from) 0)
-  cleared-front = sym (take_at (take from l) _ from (length-take-le from l h))
+  pub cleared_front : take from l ≡ take from (take from l ++ replicate (length l - from) 0)
+  cleared_front = sym (take_at (take from l) _ from (length-take-le from l h))
 
-  pub cleared-back : (i : ℕ) → from ≤ i → i < length l → 0 ≡ get_or (take from l ++ replicate (length l - from) 0) i 0
-  cleared-back i b k =
+  pub cleared_back : (i : ℕ) → from ≤ i → i < length l → 0 ≡ get_or (take from l ++ replicate (length l - from) 0) i 0
+  cleared_back i b k =
       let n = length-take-le from l h in
       let f : length (take from l) ≤ i = omega arith in
       sym

@@ -7,7 +7,7 @@ use Rattle.std.specs.Prelude.{cond, List, ℕ, zero, suc, eqb, length, take, dro
 use Rattle.deck_card.specs.declared.answer.Read.{Read}
 use Rattle.deck_card.specs.declared.answer.Read.TheVariants.{Sheet, Refused}
 use Rattle.deck_card.specs.Card.{long}
-use Rattle.deck_layout.specs.Layout.{rowCards, held}
+use Rattle.deck_layout.specs.Layout.{row_cards, held}
 use Rattle.deck_faults.specs.Fault.{width, height, header, row}
 
 unfoldable pub stopped : ℕ → ℕ → Read → Read
@@ -21,5 +21,5 @@ rows w h (suc n) k d = let rest = rows w h n (suc k) (drop long d) in stopped (r
 unfoldable pub judged : List ℕ → Read
 judged d =
     let c = take long d in
-    let rest = rows (width c) (height c) (rowCards (width c) (height c)) 2 (drop long d) in
+    let rest = rows (width c) (height c) (row_cards (width c) (height c)) 2 (drop long d) in
     stopped (header c) 1 rest

@@ -1,7 +1,7 @@
 ghost use Rattle.std.specs.Prelude.{◌≡◌, true, take};
 ghost use Rattle.sheet_size.specs.Size.{within};
 ghost use Rattle.deck_card.specs.Card.{long};
-ghost use Rattle.deck_layout.specs.Layout.{rowCards};
+ghost use Rattle.deck_layout.specs.Layout.{row_cards};
 ghost use Rattle.deck_reading.specs.Judging.{rows, judged};
 
 use deck_card::answer::Read;
@@ -21,7 +21,7 @@ pub fn next(rest: &[u8]) -> &[u8]
 // The answer to the bytes after the header.
 fn rows(deck: &[u8], width: u16, height: u16) -> Read
     requires { within width height ≡ true }
-    ensures { result ≡ rows width height (rowCards width height) 2 deck.now }
+    ensures { result ≡ rows width height (row_cards width height) 2 deck.now }
 {
     let mut rest = deck;
     let mut left = deck_layout::row_cards(width, height);

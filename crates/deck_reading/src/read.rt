@@ -1,7 +1,7 @@
 ghost use Rattle.std.specs.Prelude.{◌≡◌, length, drop};
 ghost use Rattle.deck_card.specs.Card.{long};
-ghost use Rattle.deck_card.specs.Outcome.{readOutcome};
-ghost use Rattle.deck_layout.specs.Layout.{rowCards};
+ghost use Rattle.deck_card.specs.Outcome.{read_outcome};
+ghost use Rattle.deck_layout.specs.Layout.{row_cards};
 ghost use Rattle.deck_reading.specs.Judging.{judged};
 ghost use Rattle.deck_reading.specs.Reading.{room, cells, filled, reading};
 
@@ -17,7 +17,7 @@ pub const CELLS: usize = 7920;
 fn fill(deck: &[u8], width: u16, height: u16, table: &mut [u16])
     requires deck_value { judged deck.now ≡ Read.Sheet width height }
     requires table_len { length table.old ≡ room }
-    ensures { table.new ≡ filled (cells width (rowCards width height) 2 (drop long deck.now)) }
+    ensures { table.new ≡ filled (cells width (row_cards width height) 2 (drop long deck.now)) }
 {
     let mut rest = &deck[LONG..];
     let mut left = deck_layout::row_cards(width, height);
@@ -41,7 +41,7 @@ fn fill(deck: &[u8], width: u16, height: u16, table: &mut [u16])
 // card 25, 20, 22, then 21 for the header or 23 and 24 from the left for a row, and last 25 for bytes after the last
 // card. A refusal leaves the table as it was.
 pub fn read(deck: &[u8], cells: &mut [u16]) -> Read
-    ensures { readOutcome result cells.new ≡ reading deck.now cells.old }
+    ensures { read_outcome result cells.new ≡ reading deck.now cells.old }
 {
     if cells.len() != CELLS {
         return Read::Refused {

@@ -1,5 +1,5 @@
 -- The bytes of a deck while it is written, card by card.
---   rowDeck w n k s == the n cards from the card numbered k on that hold the cells s
+--   row_deck w n k s == the n cards from the card numbered k on that hold the cells s
 --   Punching        == the cards written so far stand at the front of the bytes, and those of the cells that are left
 --                      complete them
 use mathlib.Core.Path.{◌≡◌, refl, sym, ap, ◌∙◌}
@@ -16,22 +16,22 @@ use Rattle.sheet_size.specs.Size.{within}
 use Rattle.deck_card.specs.declared.answer.Written.TheVariants.{Done, Size, Sheet, Deck, Label}
 use Rattle.laws.specs.Every.{every}
 use Rattle.deck_card.specs.Card.{columns, long, visible, card}
-use Rattle.deck_card.specs.Outcome.{writeOutcome}
-use Rattle.deck_layout.specs.Layout.{heading, rowCards, held}
-use Rattle.deck_card.proofs.Cards.{length-card}
-use Rattle.deck_card.proofs.Every.{every_take, every_drop, labels-bytes}
-use Rattle.deck_layout.proofs.Headings.{heading-fits}
-use Rattle.deck_layout.proofs.Sizes.{held-most, sum, sum-all}
-use Rattle.deck_writing.specs.Writing.{rowDeck, deckOf, deckLength, written, bytesAfter, writing}
+use Rattle.deck_card.specs.Outcome.{write_outcome}
+use Rattle.deck_layout.specs.Layout.{heading, row_cards, held}
+use Rattle.deck_card.proofs.Cards.{length_card}
+use Rattle.deck_card.proofs.Every.{every_take, every_drop, labels_bytes}
+use Rattle.deck_layout.proofs.Headings.{heading_fits}
+use Rattle.deck_layout.proofs.Sizes.{held_most, sum, sum_all}
+use Rattle.deck_writing.specs.Writing.{row_deck, deck_of, deck_length, written, bytes_after, writing}
 
 -- n cards are left, k the next one's number; rest are the cells that are left; the bytes before at are written.
 pub record Punching (w h : ℕ) (goal deck rest : List ℕ) (n k at : ℕ) : Type 0 where
-  pub count : k + n ≡ rowCards w h + 2
-  pub kept : length deck ≡ deckLength w h
-  pub left : at + long * n ≡ deckLength w h
+  pub count : k + n ≡ row_cards w h + 2
+  pub kept : length deck ≡ deck_length w h
+  pub left : at + long * n ≡ deck_length w h
   pub cells : length rest ≡ sum w n k
   pub labels : every visible rest ≡ true
-  pub deck-is : take at deck ++ rowDeck w n k rest ≡ goal
+  pub deck_is : take at deck ++ row_deck w n k rest ≡ goal
 
 -- a card in the middle of the bytes, as the part that was lent comes back
 pub middle : (at : ℕ) (l m : List ℕ)
@@ -41,55 +41,55 @@ middle at l m =
     ap (λ x. take at l ++ (m ++ x)) (drop-drop (at + long - at) at l ∙ ap (λ n. drop n l) e)
 
 -- the part that is lent for a card
-pub length-middle : (at : ℕ) (l : List ℕ) → at + long ≤ length l → length (take (at + long - at) (drop at l)) ≡ long
-length-middle at l h =
+pub length_middle : (at : ℕ) (l : List ℕ) → at + long ≤ length l → length (take (at + long - at) (drop at l)) ≡ long
+length_middle at l h =
     let n = length-drop at l in
     length-take-le (at + long - at) (drop at l) (omega arith) ∙ omega arith
 
 -- after the header's card
-pub punching-none : (w h : ℕ) (s d : List ℕ) → length s ≡ w * h → length d ≡ deckLength w h → every visible s ≡ true
-    → Punching w h (take long d ++ rowDeck w (rowCards w h) 2 s) d s (rowCards w h) 2 long
-unfolding deckLength
-punching-none w h s d e q v = record {
+pub punching_none : (w h : ℕ) (s d : List ℕ) → length s ≡ w * h → length d ≡ deck_length w h → every visible s ≡ true
+    → Punching w h (take long d ++ row_deck w (row_cards w h) 2 s) d s (row_cards w h) 2 long
+unfolding deck_length
+punching_none w h s d e q v = record {
   count = omega arith;
   kept = q;
   left = omega arith;
-  cells = e ∙ sym (sum-all w h);
+  cells = e ∙ sym (sum_all w h);
   labels = v;
-  deck-is = refl;
+  deck_is = refl;
 }
 
 module _ (w h : ℕ) (size : within w h ≡ true) (goal deck rest : List ℕ) (k at : ℕ) where
   -- the next card's cells are there, and its bytes
-  pub punching-cells : (n : ℕ) → 0 < n → Punching w h goal deck rest n k at → held w k ≤ length rest
+  pub punching_cells : (n : ℕ) → 0 < n → Punching w h goal deck rest n k at → held w k ≤ length rest
   unfolding sum
-  punching-cells zero p f = absurd (omega arith)
-  punching-cells (suc n) p f = omega (arith, f.cells)
+  punching_cells zero p f = absurd (omega arith)
+  punching_cells (suc n) p f = omega (arith, f.cells)
 
-  pub punching-room : (n : ℕ) → 0 < n → Punching w h goal deck rest n k at → at + long ≤ length deck
-  punching-room zero p f = absurd (omega arith)
-  punching-room (suc n) p f = omega (arith, f.left, f.kept, mul-suc long n)
+  pub punching_room : (n : ℕ) → 0 < n → Punching w h goal deck rest n k at → at + long ≤ length deck
+  punching_room zero p f = absurd (omega arith)
+  punching_room (suc n) p f = omega (arith, f.left, f.kept, mul-suc long n)
 
   -- the content of the next card
-  pub punching-content : (n : ℕ) → 0 < n → Punching w h goal deck rest n k at
+  pub punching_content : (n : ℕ) → 0 < n → Punching w h goal deck rest n k at
       → (length (take (held w k) rest) ≤ columns) × ((i : ℕ) → get_or (take (held w k) rest) i 0 < 256)
-  punching-content n p f =
-      let m = held-most w h size k in
-      let e = length-take-le (held w k) rest (punching-cells n p f) in
-      (omega arith, labels-bytes (take (held w k) rest) (every_take visible (held w k) rest f.labels))
+  punching_content n p f =
+      let m = held_most w h size k in
+      let e = length-take-le (held w k) rest (punching_cells n p f) in
+      (omega arith, labels_bytes (take (held w k) rest) (every_take visible (held w k) rest f.labels))
 
   -- the next card is written
-  pub punching-turn : (n : ℕ) (deck' rest' : List ℕ) → 0 < n → Punching w h goal deck rest n k at
+  pub punching_turn : (n : ℕ) (deck' rest' : List ℕ) → 0 < n → Punching w h goal deck rest n k at
       → deck' ≡ take at deck ++ (card k (take (held w k) rest) ++ drop (at + long) deck) → rest' ≡ drop (held w k) rest
       → Punching w h goal deck' rest' (n - 1) (k + 1) (at + long)
-  unfolding sum rowDeck
-  punching-turn zero deck' rest' p f a b = absurd (omega arith)
-  punching-turn (suc n) deck' rest' p f a b =
+  unfolding sum row_deck
+  punching_turn zero deck' rest' p f a b = absurd (omega arith)
+  punching_turn (suc n) deck' rest' p f a b =
       let c = card k (take (held w k) rest) in
-      let tail = rowDeck w n (suc k) (drop (held w k) rest) in
-      let m = punching-room (suc n) p f in
+      let tail = row_deck w n (suc k) (drop (held w k) rest) in
+      let m = punching_room (suc n) p f in
       let t = length-take-le at deck (omega arith) in
-      let l = length-card k (take (held w k) rest) (punching-content (suc n) p f).0 in
+      let l = length_card k (take (held w k) rest) (punching_content (suc n) p f).0 in
       let front : length (take at deck ++ c) ≡ at + long = length-append (take at deck) c ∙ omega arith in
       rw (a, b, sub-one, add-one) (record {
         count = omega (arith, f.count);
@@ -97,53 +97,53 @@ module _ (w h : ℕ) (size : within w h ≡ true) (goal deck rest : List ℕ) (k
         left = omega (arith, f.left, mul-suc long n);
         cells = simp length-drop (omega (arith, f.cells));
         labels = every_drop visible (held w k) rest f.labels;
-        deck-is = ap (λ x. take (at + long) x ++ tail) (sym (append_assoc (take at deck) c _))
+        deck_is = ap (λ x. take (at + long) x ++ tail) (sym (append_assoc (take at deck) c _))
             ∙ ap (λ x. x ++ tail) (take_at (take at deck ++ c) _ (at + long) front)
-            ∙ append_assoc (take at deck) c tail ∙ f.deck-is;
+            ∙ append_assoc (take at deck) c tail ∙ f.deck_is;
       })
 
   -- no card is left
-  pub punching-end : (n : ℕ) → n ≤ 0 → Punching w h goal deck rest n k at → deck ≡ goal
-  unfolding rowDeck
-  punching-end zero p f =
+  pub punching_end : (n : ℕ) → n ≤ 0 → Punching w h goal deck rest n k at → deck ≡ goal
+  unfolding row_deck
+  punching_end zero p f =
       let b : length deck ≤ at = omega (arith, f.left, f.kept, mul-zero long) in
-      sym (take_all at deck b) ∙ sym (append-nil (take at deck)) ∙ f.deck-is
-  punching-end (suc n) p f = absurd (omega arith)
+      sym (take_all at deck b) ∙ sym (append-nil (take at deck)) ∙ f.deck_is
+  punching_end (suc n) p f = absurd (omega arith)
 
 -- The outcome of writing a sheet s of width w and height h into the bytes t.
 module _ (w h : ℕ) (s t : List ℕ) where
-  pub writing-size : within w h ≡ false → writeOutcome Size t ≡ writing w h s t
-  unfolding written bytesAfter writing
-  writing-size e = rw e
+  pub writing_size : within w h ≡ false → write_outcome Size t ≡ writing w h s t
+  unfolding written bytes_after writing
+  writing_size e = rw e
 
-  pub writing-sheet : within w h ≡ true → (length s ≡ w * h → ⊥) → writeOutcome Sheet t ≡ writing w h s t
-  unfolding written bytesAfter writing
-  writing-sheet e n = rw (e, ne_eqb _ _ n)
+  pub writing_sheet : within w h ≡ true → (length s ≡ w * h → ⊥) → write_outcome Sheet t ≡ writing w h s t
+  unfolding written bytes_after writing
+  writing_sheet e n = rw (e, ne_eqb _ _ n)
 
-  pub writing-deck : within w h ≡ true → length s ≡ w * h → (length t ≡ deckLength w h → ⊥)
-      → writeOutcome Deck t ≡ writing w h s t
-  unfolding written bytesAfter writing
-  writing-deck e q n = rw (e, eq-eqb _ _ q, ne_eqb _ _ n)
+  pub writing_deck : within w h ≡ true → length s ≡ w * h → (length t ≡ deck_length w h → ⊥)
+      → write_outcome Deck t ≡ writing w h s t
+  unfolding written bytes_after writing
+  writing_deck e q n = rw (e, eq-eqb _ _ q, ne_eqb _ _ n)
 
-  pub writing-label : within w h ≡ true → length s ≡ w * h → length t ≡ deckLength w h → every visible s ≡ false
-      → writeOutcome Label t ≡ writing w h s t
-  unfolding written bytesAfter writing
-  writing-label e q p v = rw (e, eq-eqb _ _ q, eq-eqb _ _ p, v)
+  pub writing_label : within w h ≡ true → length s ≡ w * h → length t ≡ deck_length w h → every visible s ≡ false
+      → write_outcome Label t ≡ writing w h s t
+  unfolding written bytes_after writing
+  writing_label e q p v = rw (e, eq-eqb _ _ q, eq-eqb _ _ p, v)
 
-  pub writing-done : within w h ≡ true → length s ≡ w * h → length t ≡ deckLength w h → every visible s ≡ true
-      → writeOutcome Done (deckOf w h s) ≡ writing w h s t
-  unfolding written bytesAfter writing
-  writing-done e q p v = rw (e, eq-eqb _ _ q, eq-eqb _ _ p, v)
+  pub writing_done : within w h ≡ true → length s ≡ w * h → length t ≡ deck_length w h → every visible s ≡ true
+      → write_outcome Done (deck_of w h s) ≡ writing w h s t
+  unfolding written bytes_after writing
+  writing_done e q p v = rw (e, eq-eqb _ _ q, eq-eqb _ _ p, v)
 
 -- a deck has a header's card
-pub deck-some : (w h : ℕ) → long ≤ deckLength w h
-unfolding deckLength
-deck-some w h = omega (arith, mul-suc long (rowCards w h))
+pub deck_some : (w h : ℕ) → long ≤ deck_length w h
+unfolding deck_length
+deck_some w h = omega (arith, mul-suc long (row_cards w h))
 
 -- the header's card, and the rows' cards after it
-pub deck-whole : (w h : ℕ) (s d : List ℕ)
-    → take long (card 1 (heading w h) ++ drop long d) ++ rowDeck w (rowCards w h) 2 s ≡ deckOf w h s
-unfolding deckOf
-deck-whole w h s d =
-    ap (λ x. x ++ rowDeck w (rowCards w h) 2 s)
-    (take_at (card 1 (heading w h)) (drop long d) long (length-card 1 (heading w h) (heading-fits w h)))
+pub deck_whole : (w h : ℕ) (s d : List ℕ)
+    → take long (card 1 (heading w h) ++ drop long d) ++ row_deck w (row_cards w h) 2 s ≡ deck_of w h s
+unfolding deck_of
+deck_whole w h s d =
+    ap (λ x. x ++ row_deck w (row_cards w h) 2 s)
+    (take_at (card 1 (heading w h)) (drop long d) long (length_card 1 (heading w h) (heading_fits w h)))

@@ -2,9 +2,9 @@ ghost use Rattle.std.specs.Prelude.{◌≡◌, true, ◌++◌, ◌*◌, ◌≤�
 ghost use Rattle.sheet_size.specs.Size.{within};
 ghost use Rattle.laws.specs.Every.{every};
 ghost use Rattle.deck_card.specs.Card.{visible, long, card};
-ghost use Rattle.deck_card.specs.Outcome.{writeOutcome};
-ghost use Rattle.deck_layout.specs.Layout.{heading, rowCards};
-ghost use Rattle.deck_writing.specs.Writing.{rowDeck, deckLength, writing};
+ghost use Rattle.deck_card.specs.Outcome.{write_outcome};
+ghost use Rattle.deck_layout.specs.Layout.{heading, row_cards};
+ghost use Rattle.deck_writing.specs.Writing.{row_deck, deck_length, writing};
 
 use crate::label;
 use deck_card::answer::Written;
@@ -24,10 +24,10 @@ fn put_header(width: u16, height: u16, deck: &mut [u8])
 fn put_rows(width: u16, height: u16, sheet: &[u16], deck: &mut [u8])
     requires height_value { within width height ≡ true }
     requires sheet_len { length sheet.now ≡ width * height }
-    requires deck_len { length deck.old ≡ deckLength width height }
+    requires deck_len { length deck.old ≡ deck_length width height }
     requires sheet_value { every visible sheet.now ≡ true }
     ensures { deck.new
-        ≡ take long deck.old ++ rowDeck width (rowCards width height) 2 sheet.now }
+        ≡ take long deck.old ++ row_deck width (row_cards width height) 2 sheet.now }
 {
     let mut rest = sheet;
     let mut left = deck_layout::row_cards(width, height);
@@ -48,7 +48,7 @@ fn put_rows(width: u16, height: u16, sheet: &[u16], deck: &mut [u8])
 // is not the width times the height, 4 where the deck's length is not that of the sheet's deck, 27 where a label is not 33
 // to 126. A refusal leaves the bytes as they were.
 pub fn write(width: u16, height: u16, sheet: &[u16], deck: &mut [u8]) -> Written
-    ensures { writeOutcome result deck.new ≡ writing width height sheet.now deck.old }
+    ensures { write_outcome result deck.new ≡ writing width height sheet.now deck.old }
 {
     if !sheet_size::within(width, height) {
         return Written::Size;

@@ -15,9 +15,9 @@ use Rattle.drawing.specs.Parts.{Lined, Kept}
 
 -- of n points
 module _ (w h n : ℕ) (z : n ≡ points w h) where
-  pub lined-all : (r m e x s : List ℕ) → take n m ≡ e → e ≡ masked w h (take (n + w + 2) r) → x ≡ nexts w h (take n m)
+  pub lined_all : (r m e x s : List ℕ) → take n m ≡ e → e ≡ masked w h (take (n + w + 2) r) → x ≡ nexts w h (take n m)
       → s ≡ sides w h (take (n + w + 2) r) (take n m) → Lined w h (take (surround w h) r) m x s
-  lined-all r m e x s p q a b =
+  lined_all r m e x s p q a b =
       let masks = rw z at (p ∙ q) in
       record {
         masks = masks;
@@ -25,6 +25,6 @@ module _ (w h n : ℕ) (z : n ≡ points w h) where
         side = (rw z at b) ∙ ap (sides w h (take (surround w h) r)) masks;
       }
 
-  pub kept-all : (s l t k d e : List ℕ) → take n t ≡ d → d ≡ tops w h (on s) → take n k ≡ e
+  pub kept_all : (s l t k d e : List ℕ) → take n t ≡ d → d ≡ tops w h (on s) → take n k ≡ e
       → e ≡ keeps w h (take n l) (take n t) → Kept w h s (take (points w h) l) t k
-  kept-all s l t k d e p q a b = record { tops = rw z at (p ∙ q); points = rw z at (a ∙ b) }
+  kept_all s l t k d e p q a b = record { tops = rw z at (p ∙ q); points = rw z at (a ∙ b) }

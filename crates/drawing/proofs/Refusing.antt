@@ -1,5 +1,5 @@
 -- What the whole drawing answers tells its outcome.
---   drawTests ..    == the tests of the whole drawing, in the paper's order
+--   draw_tests ..    == the tests of the whole drawing, in the paper's order
 --   mapped ..       == its outcome
 --   told r ts ws    == the outcome that the answer r tells
 use mathlib.Core.Path.{◌≡◌, refl, sym, ap, ◌∙◌}
@@ -10,21 +10,21 @@ use Prim.Native.Nat.{ℕ, ◌*◌}
 use lib.Dec.{lit<}
 use lib.ListN.{length}
 use borrow.Author.Tests.{eqb-true}
-use Rattle.laws.specs.First.{firstFailed, numbered}
-use Rattle.laws.proofs.First.{all-passed, failed-below}
+use Rattle.laws.specs.First.{first_failed, numbered}
+use Rattle.laws.proofs.First.{all_passed, failed_below}
 use Rattle.sheet_size.specs.Size.{within}
 use Rattle.point_darts.specs.Dart.{slots}
 use Rattle.paper.specs.Drawing.{Tables, drawing}
-use Rattle.paper.specs.Refusal.{cleared, seven, stated, drawTests, drawRefusal, mapped}
+use Rattle.paper.specs.Refusal.{cleared, seven, stated, draw_tests, draw_refusal, mapped}
 use Rattle.answer.specs.declared.Answer.{Answer}
 use Rattle.answer.specs.Answer.{number_of, told}
-use Rattle.answer.proofs.Outcome.{told-early, told-done}
+use Rattle.answer.proofs.Outcome.{told_early, told_done}
 use Rattle.table_lengths.specs.Lengths.{lengths}
-use Rattle.table_lengths.proofs.Tested.{Each, each-dart, by_name, by-dart, stated-lengths}
+use Rattle.table_lengths.proofs.Tested.{Each, each_dart, by_name, by_dart, stated_lengths}
 
-pub draw-numbered : (w h n : ℕ) (k : Bool) → numbered 1 5 (drawTests w h n k) ≡ true
-unfolding numbered drawTests
-draw-numbered w h n k = refl
+pub draw_numbered : (w h n : ℕ) (k : Bool) → numbered 1 5 (draw_tests w h n k) ≡ true
+unfolding numbered draw_tests
+draw_numbered w h n k = refl
 
 -- What fits where nothing is refused: the size, the sheet, all tables and those by dart.
 pub record Fitting (w h n : ℕ) (ns ds : List ℕ) : Type 0 where
@@ -33,41 +33,41 @@ pub record Fitting (w h n : ℕ) (ns ds : List ℕ) : Type 0 where
   pub lent : lengths w h ns ds ≡ true
   pub darts : Each (slots w h) ds
 
-pub all_fit : (w h n : ℕ) (ns ds : List ℕ) (r : Answer) → number_of r ≡ firstFailed (drawTests w h n (lengths w h ns ds))
+pub all_fit : (w h n : ℕ) (ns ds : List ℕ) (r : Answer) → number_of r ≡ first_failed (draw_tests w h n (lengths w h ns ds))
     → number_of r ≡ 0 → Fitting w h n ns ds
-unfolding drawTests
+unfolding draw_tests
 all_fit w h n ns ds r e z =
-    let p = all-passed 1 5 (lit< tt) (drawTests w h n (lengths w h ns ds)) (draw-numbered w h n (lengths w h ns ds)) (sym e ∙ z) in
+    let p = all_passed 1 5 (lit< tt) (draw_tests w h n (lengths w h ns ds)) (draw_numbered w h n (lengths w h ns ds)) (sym e ∙ z) in
     record {
       size = p.0;
       sheet = eqb-true n (w * h) p.1.0;
       lent = p.1.1.0;
-      darts = each-dart w h ns ds p.1.1.0;
+      darts = each_dart w h ns ds p.1.1.0;
     }
 
 -- Such tables are the stated ones, also when two work tables, of the lengths m and n, have been written since.
-pub stated-still : (w h : ℕ) (t : Tables) (a b : List ℕ) (ws : List (List ℕ)) (m n : ℕ)
-    → lengths w h (map length (by_name w h t ws)) (map length (by-dart w h t []) ++ m ∷ n ∷ map length ws) ≡ true
+pub stated_still : (w h : ℕ) (t : Tables) (a b : List ℕ) (ws : List (List ℕ)) (m n : ℕ)
+    → lengths w h (map length (by_name w h t ws)) (map length (by_dart w h t []) ++ m ∷ n ∷ map length ws) ≡ true
     → length a ≡ m → length b ≡ n → stated w h t (a ∷ b ∷ ws) ≡ true
-stated-still w h t a b ws m n e p q = sym (stated-lengths w h t (a ∷ b ∷ ws)) ∙ rw (p, q) e
+stated_still w h t a b ws m n e p q = sym (stated_lengths w h t (a ∷ b ∷ ws)) ∙ rw (p, q) e
 
 -- A sheet and tables of which this is answered.
 module _ (w h : ℕ) (i : List ℕ) (t : Tables) (ws : List (List ℕ)) (r : Answer)
     (e : number_of r
-    ≡ firstFailed (drawTests w h (length i) (lengths w h (map length (by_name w h t ws)) (map length (by-dart w h t ws))))) where
-  number : number_of r ≡ drawRefusal w h i t ws
-  unfolding drawRefusal
-  number = e ∙ ap (λ k. firstFailed (drawTests w h (length i) k)) (stated-lengths w h t ws)
+    ≡ first_failed (draw_tests w h (length i) (lengths w h (map length (by_name w h t ws)) (map length (by_dart w h t ws))))) where
+  number : number_of r ≡ draw_refusal w h i t ws
+  unfolding draw_refusal
+  number = e ∙ ap (λ k. first_failed (draw_tests w h (length i) k)) (stated_lengths w h t ws)
 
   pub refused : number_of r ≢ 0 → told r (seven t) ws ≡ mapped w h i t ws
-  unfolding mapped drawRefusal
+  unfolding mapped draw_refusal
   refused n =
       let k : Bool = stated w h t ws in
-      told-early r (drawRefusal w h i t ws) number n
-      (failed-below 1 5 (drawTests w h (length i) k) (lit< tt) (draw-numbered w h (length i) k)) [] (seven t) (seven (drawing w h i)) ws
+      told_early r (draw_refusal w h i t ws) number n
+      (failed_below 1 5 (draw_tests w h (length i) k) (lit< tt) (draw_numbered w h (length i) k)) [] (seven t) (seven (drawing w h i)) ws
 
   pub done : number_of r ≡ 0 → (u : Tables) (vs : List (List ℕ)) → u ≡ drawing w h i → vs ≡ cleared ws
       → told Answer.Done (seven u) vs ≡ mapped w h i t ws
   unfolding mapped number_of
   done z u vs p q =
-      told-done Answer.Done (drawRefusal w h i t ws) (sym z ∙ number) refl (seven t) (seven (drawing w h i)) ws (seven u) vs (ap seven p) q
+      told_done Answer.Done (draw_refusal w h i t ws) (sym z ∙ number) refl (seven t) (seven (drawing w h i)) ws (seven u) vs (ap seven p) q

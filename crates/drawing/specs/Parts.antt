@@ -17,7 +17,7 @@ use Rattle.level_masks.specs.Mask.{masked}
 use Rattle.level_lines.specs.Line.{nexts}
 use Rattle.level_lines.specs.Side.{sides}
 use Rattle.level_kept.specs.Keep.{keeps}
-use Rattle.level_curves.specs.Link.{alongNext, alongOther}
+use Rattle.level_curves.specs.Link.{along_next, along_other}
 
 pub record Framed (w h : ℕ) (r : List ℕ) : Type 0 where
   pub labels : List ℕ
@@ -33,32 +33,32 @@ pub record Kept (w h : ℕ) (s m t k : List ℕ) : Type 0 where
   pub points : take (points w h) k ≡ keeps w h m (take (points w h) t)
 
 pub record Curved (w h : ℕ) (x k y o : List ℕ) : Type 0 where
-  pub next : y ≡ alongNext w h x k
-  pub other : o ≡ alongOther w h x k
+  pub next : y ≡ along_next w h x k
+  pub other : o ≡ along_other w h x k
 
 -- The test of refusal 5, part by part: labels are recovered from the sides of level 1, and all is drawn again from them.
---   roundOf w h s   == the names of these labels, with the outside round them
---   masksOf w h s   == the masks of the lines of level 1 between them
---   linesAgree ..   == next and side of level 1 are those drawn again
---   totalsAgree ..  == the totals are those counted again
---   curvesAgree ..  == level 3 and the parents are those that next and side of level 1 tell, with the masks m
-unfoldable pub roundOf : ℕ → ℕ → List ℕ → List ℕ
-roundOf w h s = framed w h (names w h (recovered w h s))
+--   round_of w h s   == the names of these labels, with the outside round them
+--   masks_of w h s   == the masks of the lines of level 1 between them
+--   lines_agree ..   == next and side of level 1 are those drawn again
+--   totals_agree ..  == the totals are those counted again
+--   curves_agree ..  == level 3 and the parents are those that next and side of level 1 tell, with the masks m
+unfoldable pub round_of : ℕ → ℕ → List ℕ → List ℕ
+round_of w h s = framed w h (names w h (recovered w h s))
 
-unfoldable pub masksOf : ℕ → ℕ → List ℕ → List ℕ
-masksOf w h s = masked w h (roundOf w h s)
+unfoldable pub masks_of : ℕ → ℕ → List ℕ → List ℕ
+masks_of w h s = masked w h (round_of w h s)
 
-unfoldable pub linesAgree : ℕ → ℕ → List ℕ → List ℕ → Bool
-linesAgree w h x s = equal x (nexts w h (masksOf w h s)) && equal s (sides w h (roundOf w h s) (masksOf w h s))
+unfoldable pub lines_agree : ℕ → ℕ → List ℕ → List ℕ → Bool
+lines_agree w h x s = equal x (nexts w h (masks_of w h s)) && equal s (sides w h (round_of w h s) (masks_of w h s))
 
-unfoldable pub totalsAgree : ℕ → ℕ → List ℕ → List ℕ → List ℕ → Bool
-totalsAgree w h s c b =
+unfoldable pub totals_agree : ℕ → ℕ → List ℕ → List ℕ → List ℕ → Bool
+totals_agree w h s c b =
     let n = names w h (recovered w h s) in
     equal c (drawn w h n).cells && equal b (drawn w h n).borders
 
-unfoldable pub curvesAgree : ℕ → ℕ → List ℕ → List ℕ → List ℕ → List ℕ → List ℕ → List ℕ → Bool
-curvesAgree w h x s y o p m =
+unfoldable pub curves_agree : ℕ → ℕ → List ℕ → List ℕ → List ℕ → List ℕ → List ℕ → List ℕ → Bool
+curves_agree w h x s y o p m =
     let t = tops w h (on s) in
     let k = keeps w h m t in
-    equal y (alongNext w h x k) && equal o (alongOther w h x k)
+    equal y (along_next w h x k) && equal o (along_other w h x k)
     && equal p (table (w * h + 1) (parent w (on s) (at s) t))

@@ -1,8 +1,8 @@
 ghost use Rattle.std.specs.Prelude.{◌≡◌, true};
-ghost use Rattle.laws.specs.First.{firstFailed};
+ghost use Rattle.laws.specs.First.{first_failed};
 ghost use Rattle.sheet_size.specs.Size.{within};
 ghost use Rattle.paper.specs.Drawing.{drawing};
-ghost use Rattle.paper.specs.Refusal.{cleared, seven, stated, drawTests, mapped};
+ghost use Rattle.paper.specs.Refusal.{cleared, seven, stated, draw_tests, mapped};
 ghost use Rattle.answer.specs.Answer.{number_of, told};
 ghost use Rattle.table_lengths.specs.Given.{tables, works};
 ghost use Rattle.table_lengths.specs.Lengths.{lengths};
@@ -22,8 +22,8 @@ pub fn refusal(
     by_dart: &[usize],
 ) -> Answer
     ensures { number_of result ≡
-        firstFailed
-        (drawTests width height sheet (lengths width height by_name.now by_dart.now)) }
+        first_failed
+        (draw_tests width height sheet (lengths width height by_name.now by_dart.now)) }
 {
     if !sheet_size::within(width, height) {
         return Answer::Size;

@@ -10,112 +10,112 @@ use Prim.Native.Nat.{ℕ}
 use native.Mathlib.Omega.{arith}
 use lib.Dec.{eqb, lit<}
 use borrow.Author.Tests.{eqb-true, eqb-false, eq-eqb, ne_eqb, not-true, not-false}
-use Rattle.laws.specs.First.{firstFailed, numbered}
-use Rattle.laws.proofs.First.{Passed, all-passed, failed-append}
-use Rattle.laws.proofs.Test.{and-true, and_left, and_right}
+use Rattle.laws.specs.First.{first_failed, numbered}
+use Rattle.laws.proofs.First.{Passed, all_passed, failed_append}
+use Rattle.laws.proofs.Test.{and_true, and_left, and_right}
 use Rattle.point_darts.specs.Dart.{mark}
 use Rattle.paper.specs.Joining.{at, on}
-use Rattle.paper.specs.Refusal.{used, adjoin, nameTests, pairTests}
-use Rattle.paper.specs.Editor.{bothTests, isEditor, owned, theirs, ownTests}
+use Rattle.paper.specs.Refusal.{used, adjoin, name_tests, pair_tests}
+use Rattle.paper.specs.Editor.{both_tests, is_editor, owned, theirs, own_tests}
 use Rattle.answer.specs.declared.Answer.{Answer}
 use Rattle.answer.specs.Answer.{number_of}
 use Rattle.join_answer.specs.Asked as join
-use Rattle.join_answer.specs.Judge.{judgedOr}
-use Rattle.join_answer.proofs.Judging.{judged-none}
+use Rattle.join_answer.specs.Judge.{judged_or}
+use Rattle.join_answer.proofs.Judging.{judged_none}
 use Rattle.editor_answer.specs.Asked.{named, asked}
 
 module _ (o p : List ℕ) (e r x : ℕ) (f : x ≡ at o r) where
-  pub theirs-other : x ≢ e → false ≡ theirs o p e r
+  pub theirs_other : x ≢ e → false ≡ theirs o p e r
   unfolding theirs
-  theirs-other n = rw (ne_eqb (at o r) e (λ q. n (f ∙ q)))
+  theirs_other n = rw (ne_eqb (at o r) e (λ q. n (f ∙ q)))
 
-  pub theirs-present : x ≡ e → (y : ℕ) → y ≡ at p r → not (eqb y mark) ≡ theirs o p e r
+  pub theirs_present : x ≡ e → (y : ℕ) → y ≡ at p r → not (eqb y mark) ≡ theirs o p e r
   unfolding theirs used on
-  theirs-present q y g = rw (eq-eqb (at o r) e (sym f ∙ q), g)
+  theirs_present q y g = rw (eq-eqb (at o r) e (sym f ∙ q), g)
 
 -- The tests of two names one after another: 6, 7, 10.
 module _ (o p : List ℕ) (k e a b : ℕ) where
-  pub named-refused : k ≢ 0 → k ≡ named k o p e a b
+  pub named_refused : k ≢ 0 → k ≡ named k o p e a b
   unfolding named
-  named-refused n = rw (ne_eqb k 0 n)
+  named_refused n = rw (ne_eqb k 0 n)
 
   module _ (z : k ≡ 0) where
-    pub named-first-outside : a ≡ 0 → 6 ≡ named k o p e a b
-    unfolding named firstFailed
-    named-first-outside f = rw (eq-eqb k 0 z, eq-eqb a 0 f)
+    pub named_first_outside : a ≡ 0 → 6 ≡ named k o p e a b
+    unfolding named first_failed
+    named_first_outside f = rw (eq-eqb k 0 z, eq-eqb a 0 f)
 
     module _ (l : a ≢ 0) where
-      pub named-second-outside : b ≡ 0 → 6 ≡ named k o p e a b
-      unfolding named firstFailed
-      named-second-outside f = rw (eq-eqb k 0 z, ne_eqb a 0 l, eq-eqb b 0 f)
+      pub named_second_outside : b ≡ 0 → 6 ≡ named k o p e a b
+      unfolding named first_failed
+      named_second_outside f = rw (eq-eqb k 0 z, ne_eqb a 0 l, eq-eqb b 0 f)
 
       module _ (m : b ≢ 0) where
-        pub named-equal : a ≡ b → 7 ≡ named k o p e a b
-        unfolding named firstFailed
-        named-equal f = rw (eq-eqb k 0 z, ne_eqb a 0 l, ne_eqb b 0 m, eq-eqb a b f)
+        pub named_equal : a ≡ b → 7 ≡ named k o p e a b
+        unfolding named first_failed
+        named_equal f = rw (eq-eqb k 0 z, ne_eqb a 0 l, ne_eqb b 0 m, eq-eqb a b f)
 
         module _ (n : a ≢ b) (x : Bool) (f : x ≡ theirs o p e a) where
-          pub named-first-other : not x ≡ true → 10 ≡ named k o p e a b
-          unfolding named firstFailed
-          named-first-other g =
+          pub named_first_other : not x ≡ true → 10 ≡ named k o p e a b
+          unfolding named first_failed
+          named_first_other g =
               rw (eq-eqb k 0 z, ne_eqb a 0 l, ne_eqb b 0 m, ne_eqb a b n, sym f ∙ not-true x g)
 
           module _ (g : not x ≡ false) (y : Bool) (h : y ≡ theirs o p e b) where
-            pub named-second-other : not y ≡ true → 10 ≡ named k o p e a b
-            unfolding named firstFailed
-            named-second-other i =
+            pub named_second_other : not y ≡ true → 10 ≡ named k o p e a b
+            unfolding named first_failed
+            named_second_other i =
                 rw (eq-eqb k 0 z, ne_eqb a 0 l, ne_eqb b 0 m, ne_eqb a b n, sym f ∙ not-false x g, sym h ∙ not-true y i)
 
-            pub named-done : not y ≡ false → 0 ≡ named k o p e a b
-            unfolding named firstFailed
-            named-done i =
+            pub named_done : not y ≡ false → 0 ≡ named k o p e a b
+            unfolding named first_failed
+            named_done i =
                 rw (eq-eqb k 0 z, ne_eqb a 0 l, ne_eqb b 0 m, ne_eqb a b n, sym f ∙ not-false x g, sym h ∙ not-false y i)
 
 -- After a check with the number k: j is the number once the editor is judged, that of v the number once the names are.
-module _ (o p : List ℕ) (k e a b j : ℕ) (q : j ≡ judgedOr k (isEditor e && owned o) 11)
+module _ (o p : List ℕ) (k e a b j : ℕ) (q : j ≡ judged_or k (is_editor e && owned o) 11)
     (v : Answer) (f : number_of v ≡ named j o p e a b) where
   abbrev tests : List (Bool × ℕ)
-  tests = bothTests (theirs o p e) 10 a b
+  tests = both_tests (theirs o p e) 10 a b
 
-  tests-numbered : numbered 6 11 tests ≡ true
+  tests_numbered : numbered 6 11 tests ≡ true
   unfolding numbered
-  tests-numbered = refl
+  tests_numbered = refl
 
-  pub asked-open : number_of v ≡ 0 → k ≡ 0
+  pub asked_open : number_of v ≡ 0 → k ≡ 0
   unfolding named
-  asked-open z = judged-none k 11 (isEditor e && owned o) (λ y. omega (arith, y)) (sym q ∙ by (eqb j 0) refl (sym f ∙ z))
+  asked_open z = judged_none k 11 (is_editor e && owned o) (λ y. omega (arith, y)) (sym q ∙ by (eqb j 0) refl (sym f ∙ z))
     where
-      by : (c : Bool) → eqb j 0 ≡ c → cond c (firstFailed tests) j ≡ 0 → j ≡ 0
+      by : (c : Bool) → eqb j 0 ≡ c → cond c (first_failed tests) j ≡ 0 → j ≡ 0
       by true i g = eqb-true j 0 i
       by false i g = g
 
   module _ (w h : ℕ) (s : List ℕ) where
     -- two regions of the editor's pass the tests of any join
-    both_used : firstFailed tests ≡ 0 → firstFailed (pairTests w h s p a b) ≡ firstFailed ((adjoin w h s a b, 9) ∷ [])
-    unfolding firstFailed nameTests theirs
+    both_used : first_failed tests ≡ 0 → first_failed (pair_tests w h s p a b) ≡ first_failed ((adjoin w h s a b, 9) ∷ [])
+    unfolding first_failed name_tests theirs
     both_used z =
-        let t = all-passed 6 11 (lit< tt) tests tests-numbered z in
+        let t = all_passed 6 11 (lit< tt) tests tests_numbered z in
         let x = theirs o p e a in
         let y = theirs o p e b in
         let i = and_left x y t.1.1.0 in
         let l = and_right x y t.1.1.0 in
         rw (t.0, t.1.0, and_right (eqb (at o a) e) (used p a) i, and_right (eqb (at o b) e) (used p b) l)
 
-    pub asked-told : (r : ℕ) → r ≡ join.asked v w h s p a b → r ≡ asked k w h o s p e a b
-    unfolding join.asked named asked ownTests
-    asked-told r g = g ∙ rw (← q) (by (eqb j 0) refl f)
+    pub asked_told : (r : ℕ) → r ≡ join.asked v w h s p a b → r ≡ asked k w h o s p e a b
+    unfolding join.asked named asked own_tests
+    asked_told r g = g ∙ rw (← q) (by (eqb j 0) refl f)
       where
         last : List (Bool × ℕ)
         last = (adjoin w h s a b, 9) ∷ []
 
         -- the names decide
-        on : (c : Bool) → eqb (firstFailed tests) 0 ≡ c
-            → cond c (firstFailed (pairTests w h s p a b)) (firstFailed tests) ≡ cond c (firstFailed last) (firstFailed tests)
-        on true l = both_used (eqb-true (firstFailed tests) 0 l)
+        on : (c : Bool) → eqb (first_failed tests) 0 ≡ c
+            → cond c (first_failed (pair_tests w h s p a b)) (first_failed tests) ≡ cond c (first_failed last) (first_failed tests)
+        on true l = both_used (eqb-true (first_failed tests) 0 l)
         on false l = refl
 
-        by : (c : Bool) → eqb j 0 ≡ c → number_of v ≡ cond c (firstFailed tests) j
-            → cond (eqb (number_of v) 0) (firstFailed (pairTests w h s p a b)) (number_of v) ≡ cond c (firstFailed (tests ++ last)) j
+        by : (c : Bool) → eqb j 0 ≡ c → number_of v ≡ cond c (first_failed tests) j
+            → cond (eqb (number_of v) 0) (first_failed (pair_tests w h s p a b)) (number_of v) ≡ cond c (first_failed (tests ++ last)) j
         by true i l =
-            rw l (on (eqb (firstFailed tests) 0) refl) ∙ sym (failed-append 6 11 (lit< tt) tests last tests-numbered)
+            rw l (on (eqb (first_failed tests) 0) refl) ∙ sym (failed_append 6 11 (lit< tt) tests last tests_numbered)
         by false i l = rw (l, i)

@@ -1,11 +1,11 @@
 // The numbers of editors, and the owners of names.
 ghost use Rattle.std.specs.Prelude.{◌≡◌, not, ◌&&◌, ◌||◌, ◌+◌, ◌*◌, eqb};
 ghost use Rattle.sheet_size.specs.Size.{within};
-ghost use Rattle.paper.specs.Editor.{isEditor, owned};
+ghost use Rattle.paper.specs.Editor.{is_editor, owned};
 
 // Whether a number is that of an editor.
 fn is_editor(number: u16) -> bool
-    ensures { result ≡ isEditor number }
+    ensures { result ≡ is_editor number }
 {
     (number == 1) | (number == 2)
 }
@@ -26,7 +26,7 @@ pub fn are_owned(owners: &[u16]) -> bool
 
 // Whether an editor may call by these owners.
 pub fn may_call(editor: u16, owners: &[u16]) -> bool
-    ensures { result ≡ (isEditor editor && owned owners.now) }
+    ensures { result ≡ (is_editor editor && owned owners.now) }
 {
     if is_editor(editor) {
         return are_owned(owners);

@@ -11,34 +11,34 @@ use native.Mathlib.Omega.{arith}
 use lib.Dec.{eqb}
 use lib.ListN.{length}
 use borrow.Author.Tests.{eqb-true, eqb-false, ne_eqb, not-true, not-false}
-use Rattle.laws.specs.First.{firstFailed}
-use Rattle.laws.proofs.First.{failed-from}
-use Rattle.laws.proofs.Test.{or-neither}
+use Rattle.laws.specs.First.{first_failed}
+use Rattle.laws.proofs.First.{failed_from}
+use Rattle.laws.proofs.Test.{or_neither}
 use Rattle.sheet_size.specs.Size.{within}
-use Rattle.paper.specs.Drawing.{Tables, isDrawing}
+use Rattle.paper.specs.Drawing.{Tables, is_drawing}
 use Rattle.paper.specs.Joining.{joined}
-use Rattle.paper.specs.Refusal.{ended, outcome, workLeft, cleared, seven, stated, sizeTests, givenTests}
+use Rattle.paper.specs.Refusal.{ended, outcome, work_left, cleared, seven, stated, size_tests, given_tests}
 use Rattle.paper.specs.Sitting.{Joinable}
-use Rattle.paper.specs.Editor.{Call, call, isEditor, owned, lent, ownTests, callTests, reply, after, edited}
-use Rattle.paper_laws.proofs.Editors.{own-numbered, own-joinable}
+use Rattle.paper.specs.Editor.{Call, call, is_editor, owned, lent, own_tests, call_tests, reply, after, edited}
+use Rattle.paper_laws.proofs.Editors.{own_numbered, own_joinable}
 use Rattle.answer.specs.declared.Answer.{Answer}
 use Rattle.answer.specs.Answer.{number_of, told}
-use Rattle.answer.proofs.Outcome.{work-cleared, told-early}
+use Rattle.answer.proofs.Outcome.{work_cleared, told_early}
 use Rattle.table_lengths.specs.Given.{works}
 use Rattle.check_answer.specs.Check.{checked}
-use Rattle.check_answer.proofs.Given.{given-number, given-work}
-use Rattle.join_answer.specs.Judge.{judgedOr}
-use Rattle.join_answer.proofs.Judging.{judged-none, judged-or-work}
+use Rattle.check_answer.proofs.Given.{given_number, given_work}
+use Rattle.join_answer.specs.Judge.{judged_or}
+use Rattle.join_answer.proofs.Judging.{judged_none, judged_or_work}
 use Rattle.join_rule.specs.Apply.{pair, Ready}
 use Rattle.join_call.specs.Faithful.{Faithful}
-use Rattle.join_call.proofs.Doing.{join-stops, join-ready, join-done}
+use Rattle.join_call.proofs.Doing.{join_stops, join_ready, join_done}
 use Rattle.editor_answer.specs.Asked.{asked}
 
 -- The tests of a call, where l says that the owners are as many as the names.
 tests : (p q l c d : Bool) (us : List (Bool × ℕ)) → (not p || l) ≡ true
-    → firstFailed ((p, 1) ∷ (l && q, 4) ∷ (c, 11) ∷ (d, 5) ∷ us)
-    ≡ (let j = judgedOr (firstFailed ((p, 1) ∷ (q, 4) ∷ (d, 5) ∷ [])) c 11 in cond (eqb j 0) (firstFailed us) j)
-unfolding judgedOr firstFailed
+    → first_failed ((p, 1) ∷ (l && q, 4) ∷ (c, 11) ∷ (d, 5) ∷ us)
+    ≡ (let j = judged_or (first_failed ((p, 1) ∷ (q, 4) ∷ (d, 5) ∷ [])) c 11 in cond (eqb j 0) (first_failed us) j)
+unfolding judged_or first_failed
 tests false q l c d us e = refl
 tests true q false c d us e = absurd (false≢true e)
 tests true false true c d us e = refl
@@ -56,29 +56,29 @@ module _ (w h : ℕ) (o : List ℕ) (t : Tables) (e a b : ℕ) (ws : List (List 
       (told r (seven u) xs ≡ edited w h o t (call e a b ws)) × (number_of r ≡ 0 → Faithful w h t u a b)
 
   -- the outcome is told as that of any join
-  any-join : outcome number [] (seven t) (seven (joined w h t a b)) ws ≡ edited w h o t (call e a b ws)
+  any_join : outcome number [] (seven t) (seven (joined w h t a b)) ws ≡ edited w h o t (call e a b ws)
   unfolding edited after outcome
-  any-join = by number
+  any_join = by number
     where
       by : (k : ℕ) → outcome k [] (seven t) (seven (joined w h t a b)) ws
-          ≡ ended k [] (seven (cond (eqb k 0) (joined w h t a b) t)) (workLeft k ws)
+          ≡ ended k [] (seven (cond (eqb k 0) (joined w h t a b) t)) (work_left k ws)
       by zero = refl
       by (suc k) = rw (ne_eqb (suc k) 0 (λ z. omega (arith, z)))
 
   module _ (x : Bool) (f : x ≡ (not (within w h) || eqb (length o) (w * h + 1))) where
     -- there are not as many owners as names
     short : not x ≡ true → number ≡ 4
-    unfolding reply callTests sizeTests lent firstFailed
+    unfolding reply call_tests size_tests lent first_failed
     short n =
-        let (p, q) = or-neither (not (within w h)) (eqb (length o) (w * h + 1)) (sym f ∙ not-true x n) in
+        let (p, q) = or_neither (not (within w h)) (eqb (length o) (w * h + 1)) (sym f ∙ not-true x n) in
         rw (not-false (within w h) p, q)
 
-    pub owners-stop : not x ≡ true → Promised Answer.Tables t ws
+    pub owners_stop : not x ≡ true → Promised Answer.Tables t ws
     unfolding number_of
-    owners-stop n = (
-      told-early Answer.Tables number (sym (short n)) (λ z. omega (arith, z)) (rw (short n) (omega arith)) [] (seven t)
+    owners_stop n = (
+      told_early Answer.Tables number (sym (short n)) (λ z. omega (arith, z)) (rw (short n) (omega arith)) [] (seven t)
           (seven (joined w h t a b)) ws
-          ∙ any-join,
+          ∙ any_join,
       λ z. absurd (omega (arith, z)),
     )
 
@@ -86,61 +86,61 @@ module _ (w h : ℕ) (o : List ℕ) (t : Tables) (e a b : ℕ) (ws : List (List 
     module _ (y : not x ≡ false) (vs : List (List ℕ)) (v : Answer) (c : told v (seven t) vs ≡ checked w h t ws) (r : Answer)
         (g : number_of r ≡ asked (number_of v) w h o t.side1 t.parent e a b) where
       abbrev names : List (Bool × ℕ)
-      names = ownTests w h o t.side1 t.parent e a b
+      names = own_tests w h o t.side1 t.parent e a b
 
       -- the number once the editor is judged
       abbrev early : ℕ
-      early = judgedOr (firstFailed (givenTests w h t ws)) (isEditor e && owned o) 11
+      early = judged_or (first_failed (given_tests w h t ws)) (is_editor e && owned o) 11
 
-      number-after : number ≡ cond (eqb early 0) (firstFailed names) early
-      unfolding reply callTests sizeTests givenTests lent
-      number-after =
-          tests (within w h) (stated w h t ws) (eqb (length o) (w * h + 1)) (isEditor e && owned o) (isDrawing w h t) names
+      number_after : number ≡ cond (eqb early 0) (first_failed names) early
+      unfolding reply call_tests size_tests given_tests lent
+      number_after =
+          tests (within w h) (stated w h t ws) (eqb (length o) (w * h + 1)) (is_editor e && owned o) (is_drawing w h t) names
           (sym f ∙ not-false x y)
 
-      told-number : number_of r ≡ number
+      told_number : number_of r ≡ number
       unfolding asked
-      told-number =
-          rw (given-number w h t ws v vs c) at g ∙ sym number-after
+      told_number =
+          rw (given_number w h t ws v vs c) at g ∙ sym number_after
 
-      work : vs ≡ workLeft number ws
+      work : vs ≡ work_left number ws
       work =
-          given-work w h t ws v vs c
-          ∙ judged-or-work (firstFailed (givenTests w h t ws)) (isEditor e && owned o) 11 ws (omega arith)
-          ∙ rw number-after (by (eqb early 0) refl)
+          given_work w h t ws v vs c
+          ∙ judged_or_work (first_failed (given_tests w h t ws)) (is_editor e && owned o) 11 ws (omega arith)
+          ∙ rw number_after (by (eqb early 0) refl)
         where
-          by : (k : Bool) → eqb early 0 ≡ k → workLeft early ws ≡ workLeft (cond k (firstFailed names) early) ws
+          by : (k : Bool) → eqb early 0 ≡ k → work_left early ws ≡ work_left (cond k (first_failed names) early) ws
           by true p =
-              ap (λ k. workLeft k ws) (eqb-true early 0 p)
-              ∙ work-cleared 0 ws (λ z. absurd (z refl))
+              ap (λ k. work_left k ws) (eqb-true early 0 p)
+              ∙ work_cleared 0 ws (λ z. absurd (z refl))
               ∙ sym
-              (work-cleared (firstFailed names) ws
-              (λ z. omega (arith, failed-from 6 11 names (own-numbered w h o t.side1 t.parent e a b) z)))
+              (work_cleared (first_failed names) ws
+              (λ z. omega (arith, failed_from 6 11 names (own_numbered w h o t.side1 t.parent e a b) z)))
           by false p = refl
 
       joins : number ≡ 0 → (number_of v ≡ 0) × Joinable w h t a b
-      joins z = by (eqb early 0) refl (sym number-after ∙ z)
+      joins z = by (eqb early 0) refl (sym number_after ∙ z)
         where
-          by : (k : Bool) → eqb early 0 ≡ k → cond k (firstFailed names) early ≡ 0 → (number_of v ≡ 0) × Joinable w h t a b
+          by : (k : Bool) → eqb early 0 ≡ k → cond k (first_failed names) early ≡ 0 → (number_of v ≡ 0) × Joinable w h t a b
           by true p q = (
-            given-number w h t ws v vs c
-                ∙ judged-none (firstFailed (givenTests w h t ws)) 11 (isEditor e && owned o) (λ i. omega (arith, i)) (eqb-true early 0 p),
-            own-joinable w h o t e a b q,
+            given_number w h t ws v vs c
+                ∙ judged_none (first_failed (given_tests w h t ws)) 11 (is_editor e && owned o) (λ i. omega (arith, i)) (eqb-true early 0 p),
+            own_joinable w h o t e a b q,
           )
           by false p q = absurd (eqb-false early 0 p q)
 
-      pub asked-stops : number_of r ≢ 0 → Promised r t vs
-      asked-stops n =
-          let (p, q) = join-stops w h t a b ws vs v c number work joins r told-number n in
-          (p ∙ any-join, q)
+      pub asked_stops : number_of r ≢ 0 → Promised r t vs
+      asked_stops n =
+          let (p, q) = join_stops w h t a b ws vs v c number work joins r told_number n in
+          (p ∙ any_join, q)
 
       -- Nothing is refused.
       module _ (z : number_of r ≡ 0) where
-        pub asked-ready : Ready w h t vs a b
-        asked-ready = join-ready w h t a b ws vs v c number work joins r told-number z
+        pub asked_ready : Ready w h t vs a b
+        asked_ready = join_ready w h t a b ws vs v c number work joins r told_number z
 
-        pub asked-joined : (c d e f x y : List ℕ) → vs ≡ works c d e f → (u : Tables) → u ≡ joined w h t a b
+        pub asked_joined : (c d e f x y : List ℕ) → vs ≡ works c d e f → (u : Tables) → u ≡ joined w h t a b
             → pair x y ≡ cleared (pair c d) → Promised Answer.Done u (works x y e f)
-        asked-joined k l m n x₁ y₁ s u i j =
-            let (p, q) = join-done w h t a b ws vs v c number work joins r told-number z k l m n x₁ y₁ s u i j in
-            (p ∙ any-join, q)
+        asked_joined k l m n x₁ y₁ s u i j =
+            let (p, q) = join_done w h t a b ws vs v c number work joins r told_number z k l m n x₁ y₁ s u i j in
+            (p ∙ any_join, q)

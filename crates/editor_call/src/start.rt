@@ -1,6 +1,6 @@
 ghost use Rattle.std.specs.Prelude.{◌≡◌, [], ◌∷◌, ◌++◌};
-ghost use Rattle.laws.specs.First.{firstFailed};
-ghost use Rattle.paper.specs.Refusal.{seven, drawTests};
+ghost use Rattle.laws.specs.First.{first_failed};
+ghost use Rattle.paper.specs.Refusal.{seven, draw_tests};
 ghost use Rattle.paper.specs.Editor.{owned, started};
 ghost use Rattle.answer.specs.Answer.{number_of, told};
 ghost use Rattle.table_lengths.specs.Given.{tables, works};
@@ -21,8 +21,8 @@ fn refusal(
     by_dart: &[usize],
 ) -> Answer
     ensures { number_of result ≡
-        firstFailed
-        (drawTests width height sheet (lengths width height by_name.now by_dart.now) ++
+        first_failed
+        (draw_tests width height sheet (lengths width height by_name.now by_dart.now) ++
         (owned owners.now, 11) ∷ []) }
 {
     let answer = draw::refusal(width, height, sheet, by_name, by_dart);

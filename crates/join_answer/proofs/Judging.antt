@@ -1,5 +1,5 @@
--- What is judgedOr after a check's refusals 1 to 4 and before its 5.
---   judgedOr k b n    == the number after a check with the number k, where b says that what is judgedOr is right, else n
+-- What is judged_or after a check's refusals 1 to 4 and before its 5.
+--   judged_or k b n    == the number after a check with the number k, where b says that what is judged_or is right, else n
 use mathlib.Core.Path.{◌≡◌, refl, sym, ap, ◌∙◌}
 use mathlib.Core.Bool.{Bool, true, false, cond, not, ◌&&◌, true≢false}
 use mathlib.Core.List.{List, [], ◌∷◌, ◌++◌}
@@ -9,24 +9,24 @@ use native.Mathlib.Decide.{dec_le}
 use native.Mathlib.Omega.{arith}
 use lib.Dec.{leb}
 use borrow.Author.Tests.{eq-eqb, ne_eqb, le-leb, lt-leb, not-true, not-false}
-use Rattle.laws.specs.First.{firstFailed}
-use Rattle.laws.proofs.Test.{and-true}
+use Rattle.laws.specs.First.{first_failed}
+use Rattle.laws.proofs.Test.{and_true}
 use Rattle.sheet_size.specs.Size.{within}
-use Rattle.paper.specs.Drawing.{Tables, isDrawing}
-use Rattle.paper.specs.Refusal.{stated, workLeft, sizeTests, givenTests}
-use Rattle.paper.specs.Order.{whole, listTests}
-use Rattle.answer.proofs.Outcome.{work-cleared}
-use Rattle.join_answer.specs.Judge.{judged, judgedOr}
+use Rattle.paper.specs.Drawing.{Tables, is_drawing}
+use Rattle.paper.specs.Refusal.{stated, work_left, size_tests, given_tests}
+use Rattle.paper.specs.Order.{whole, list_tests}
+use Rattle.answer.proofs.Outcome.{work_cleared}
+use Rattle.join_answer.specs.Judge.{judged, judged_or}
 
 -- A list of n names, for a sheet of width w.
 module _ (w n : ℕ) where
-  pub whole-odd : n % 2 ≢ 0 → false ≡ whole w n
+  pub whole_odd : n % 2 ≢ 0 → false ≡ whole w n
   unfolding whole
-  whole-odd e = rw (ne_eqb (n % 2) 0 e)
+  whole_odd e = rw (ne_eqb (n % 2) 0 e)
 
-  pub whole-narrow : n % 2 ≡ 0 → w ≤ 72 → leb n 10366 ≡ whole w n
+  pub whole_narrow : n % 2 ≡ 0 → w ≤ 72 → leb n 10366 ≡ whole w n
   unfolding whole
-  whole-narrow e l = rw (eq-eqb (n % 2) 0 e, le-leb w 72 l)
+  whole_narrow e l = rw (eq-eqb (n % 2) 0 e, le-leb w 72 l)
 
   pub whole_wide : n % 2 ≡ 0 → 72 < w → leb n 15838 ≡ whole w n
   unfolding whole
@@ -34,38 +34,38 @@ module _ (w n : ℕ) where
 
 -- A number that is 1 to 4.
 module _ (k : ℕ) where
-  pub early-none : k < 1 → false ≡ (leb 1 k && leb k 4)
-  early-none l = rw (lt-leb 1 k l)
+  pub early_none : k < 1 → false ≡ (leb 1 k && leb k 4)
+  early_none l = rw (lt-leb 1 k l)
 
-  pub early-low : 1 ≤ k → leb k 4 ≡ (leb 1 k && leb k 4)
-  early-low l = rw (le-leb 1 k l)
+  pub early_low : 1 ≤ k → leb k 4 ≡ (leb 1 k && leb k 4)
+  early_low l = rw (le-leb 1 k l)
 
--- Where e says whether the number m of the check, which is k, is 1 to 4, and b whether what is judgedOr is right.
+-- Where e says whether the number m of the check, which is k, is 1 to 4, and b whether what is judged_or is right.
 module _ (k m n : ℕ) (e b : Bool) (p : m ≡ k) (q : e ≡ (leb 1 m && leb m 4)) where
   early : e ≡ (leb 1 k && leb k 4)
   early = q ∙ ap (λ n. leb 1 n && leb n 4) p
 
-  pub judged-early : e ≡ true → k ≡ judgedOr k b n
-  unfolding judgedOr
-  judged-early f = rw (sym early ∙ f)
+  pub judged_early : e ≡ true → k ≡ judged_or k b n
+  unfolding judged_or
+  judged_early f = rw (sym early ∙ f)
 
   module _ (f : e ≡ false) where
-    pub judged-refused : not b ≡ true → n ≡ judgedOr k b n
-    unfolding judgedOr
-    judged-refused c = rw (sym early ∙ f, not-true b c)
+    pub judged_refused : not b ≡ true → n ≡ judged_or k b n
+    unfolding judged_or
+    judged_refused c = rw (sym early ∙ f, not-true b c)
 
-    pub judged-on : not b ≡ false → k ≡ judgedOr k b n
-    unfolding judgedOr
-    judged-on c = rw (sym early ∙ f, not-false b c)
+    pub judged_on : not b ≡ false → k ≡ judged_or k b n
+    unfolding judged_or
+    judged_on c = rw (sym early ∙ f, not-false b c)
 
 -- What tells that it is right may be told in another way.
-pub judged-told : (r k n : ℕ) (b c : Bool) → r ≡ judgedOr k b n → b ≡ c → r ≡ judgedOr k c n
-judged-told r k n b c p q = p ∙ ap (λ d. judgedOr k d n) q
+pub judged_told : (r k n : ℕ) (b c : Bool) → r ≡ judged_or k b n → b ≡ c → r ≡ judged_or k c n
+judged_told r k n b c p q = p ∙ ap (λ d. judged_or k d n) q
 
 -- Where nothing is refused, the check refused nothing.
-pub judged-none : (k n : ℕ) (b : Bool) → n ≢ 0 → judgedOr k b n ≡ 0 → k ≡ 0
-unfolding judgedOr
-judged-none k n b z = by (leb 1 k && leb k 4) b
+pub judged_none : (k n : ℕ) (b : Bool) → n ≢ 0 → judged_or k b n ≡ 0 → k ≡ 0
+unfolding judged_or
+judged_none k n b z = by (leb 1 k && leb k 4) b
   where
     by : (e b : Bool) → cond e k (cond b k n) ≡ 0 → k ≡ 0
     by true b f = f
@@ -74,8 +74,8 @@ judged-none k n b z = by (leb 1 k && leb k 4) b
 
 -- The number is that of the first test that is not passed.
 tests : (a b c d : Bool) (n : ℕ)
-    → judgedOr (firstFailed ((a, 1) ∷ (b, 4) ∷ (d, 5) ∷ [])) c n ≡ firstFailed ((a, 1) ∷ (b, 4) ∷ (c, n) ∷ (d, 5) ∷ [])
-unfolding judgedOr firstFailed
+    → judged_or (first_failed ((a, 1) ∷ (b, 4) ∷ (d, 5) ∷ [])) c n ≡ first_failed ((a, 1) ∷ (b, 4) ∷ (c, n) ∷ (d, 5) ∷ [])
+unfolding judged_or first_failed
 tests false b c d n = refl
 tests true false c d n = refl
 tests true true false false n = refl
@@ -83,32 +83,32 @@ tests true true false true n = refl
 tests true true true false n = refl
 tests true true true true n = refl
 
-pub judged-or-tests : (w h : ℕ) (t : Tables) (ws : List (List ℕ)) (b : Bool) (n : ℕ)
-    → judgedOr (firstFailed (givenTests w h t ws)) b n
-    ≡ firstFailed (sizeTests w h (stated w h t ws) ++ (b, n) ∷ (isDrawing w h t, 5) ∷ [])
-unfolding givenTests sizeTests
-judged-or-tests w h t ws b n = tests (within w h) (stated w h t ws) b (isDrawing w h t) n
+pub judged_or_tests : (w h : ℕ) (t : Tables) (ws : List (List ℕ)) (b : Bool) (n : ℕ)
+    → judged_or (first_failed (given_tests w h t ws)) b n
+    ≡ first_failed (size_tests w h (stated w h t ws) ++ (b, n) ∷ (is_drawing w h t, 5) ∷ [])
+unfolding given_tests size_tests
+judged_or_tests w h t ws b n = tests (within w h) (stated w h t ws) b (is_drawing w h t) n
 
 -- What the check leaves of the work tables is what such a refusal leaves.
-pub judged-or-work : (k : ℕ) (b : Bool) (n : ℕ) (ws : List (List ℕ)) → 5 ≤ n → workLeft k ws ≡ workLeft (judgedOr k b n) ws
-unfolding judgedOr
-judged-or-work k b n ws r = by (leb 1 k && leb k 4) refl b
+pub judged_or_work : (k : ℕ) (b : Bool) (n : ℕ) (ws : List (List ℕ)) → 5 ≤ n → work_left k ws ≡ work_left (judged_or k b n) ws
+unfolding judged_or
+judged_or_work k b n ws r = by (leb 1 k && leb k 4) refl b
   where
     late : (leb 1 k && leb k 4) ≡ false → k ≢ 0 → Dec (k ≤ 4) → 5 ≤ k
-    late f z (yes l) = absurd (true≢false (sym (and-true (le-leb 1 k (omega (arith, z))) (le-leb k 4 l)) ∙ f))
+    late f z (yes l) = absurd (true≢false (sym (and_true (le-leb 1 k (omega (arith, z))) (le-leb k 4 l)) ∙ f))
     late f z (no l) = omega (arith, l)
 
-    by : (e : Bool) → (leb 1 k && leb k 4) ≡ e → (b : Bool) → workLeft k ws ≡ workLeft (judgedOr k b n) ws
+    by : (e : Bool) → (leb 1 k && leb k 4) ≡ e → (b : Bool) → work_left k ws ≡ work_left (judged_or k b n) ws
     by true f b = rw f
     by false f true = rw f
-    by false f false = rw f (work-cleared k ws (λ z. late f z (dec_le k 4)) ∙ sym (work-cleared n ws (λ z. r)))
+    by false f false = rw f (work_cleared k ws (λ z. late f z (dec_le k 4)) ∙ sym (work_cleared n ws (λ z. r)))
 
 -- A list that may not be lent is refused with 12.
-pub judged-tests : (w h : ℕ) (t : Tables) (n : ℕ) (ws : List (List ℕ))
-    → judged (firstFailed (givenTests w h t ws)) (whole w n) ≡ firstFailed (listTests w h t n ws)
-unfolding judged judgedOr listTests
-judged-tests w h t n ws = judged-or-tests w h t ws (whole w n) 12
+pub judged_tests : (w h : ℕ) (t : Tables) (n : ℕ) (ws : List (List ℕ))
+    → judged (first_failed (given_tests w h t ws)) (whole w n) ≡ first_failed (list_tests w h t n ws)
+unfolding judged judged_or list_tests
+judged_tests w h t n ws = judged_or_tests w h t ws (whole w n) 12
 
-pub judged-work : (k : ℕ) (b : Bool) (ws : List (List ℕ)) → workLeft k ws ≡ workLeft (judged k b) ws
-unfolding judged judgedOr
-judged-work k b ws = judged-or-work k b 12 ws (omega arith)
+pub judged_work : (k : ℕ) (b : Bool) (ws : List (List ℕ)) → work_left k ws ≡ work_left (judged k b) ws
+unfolding judged judged_or
+judged_work k b ws = judged_or_work k b 12 ws (omega arith)

@@ -2,11 +2,11 @@
 --   asked v w h s p a b == the number after a check that answered v: its own, else that of the first test of the names a and b that
 --                      is not passed, by the level 1 sides s and the parents p
 use Rattle.std.specs.Prelude.{cond, List, ℕ, eqb}
-use Rattle.laws.specs.First.{firstFailed}
-use Rattle.paper.specs.Refusal.{pairTests}
+use Rattle.laws.specs.First.{first_failed}
+use Rattle.paper.specs.Refusal.{pair_tests}
 use Rattle.answer.specs.declared.Answer.{Answer}
 use Rattle.answer.specs.Answer.{number_of}
 
 unfoldable pub asked : Answer → ℕ → ℕ → List ℕ → List ℕ → ℕ → ℕ → ℕ
 asked v w h s p a b =
-    cond (eqb (number_of v) 0) (firstFailed (pairTests w h s p a b)) (number_of v)
+    cond (eqb (number_of v) 0) (first_failed (pair_tests w h s p a b)) (number_of v)

@@ -7,5 +7,5 @@ unfoldable pub judged : ℕ → Bool → ℕ
 judged k b = cond (leb 1 k && leb k 4) k (cond b k 12)
 
 -- the same where something else is judged, which is refused with n where b says that it is not right
-unfoldable pub judgedOr : ℕ → Bool → ℕ → ℕ
-judgedOr k b n = cond (leb 1 k && leb k 4) k (cond b k n)
+unfoldable pub judged_or : ℕ → Bool → ℕ → ℕ
+judged_or k b n = cond (leb 1 k && leb k 4) k (cond b k n)

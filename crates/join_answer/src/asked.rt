@@ -1,8 +1,8 @@
 ghost use Rattle.std.specs.Prelude.{◌≡◌, true, length};
-ghost use Rattle.laws.specs.First.{firstFailed};
+ghost use Rattle.laws.specs.First.{first_failed};
 ghost use Rattle.sheet_size.specs.Size.{within};
 ghost use Rattle.point_darts.specs.Dart.{slots};
-ghost use Rattle.paper.specs.Refusal.{nameTests};
+ghost use Rattle.paper.specs.Refusal.{name_tests};
 ghost use Rattle.answer.specs.Answer.{number_of};
 ghost use Rattle.join_answer.specs.Asked.{asked};
 
@@ -13,7 +13,7 @@ use table_entries::entry;
 
 // What joining answers to two names, by the parents of the drawing: done where both are regions and differ.
 pub fn check_names(parent: &[u16], a: u16, b: u16) -> Answer
-    ensures { number_of result ≡ firstFailed (nameTests parent.now a b) }
+    ensures { number_of result ≡ first_failed (name_tests parent.now a b) }
 {
     if a == 0 {
         return Answer::Outside;

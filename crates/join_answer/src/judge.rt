@@ -2,7 +2,7 @@
 ghost use Rattle.std.specs.Prelude.{◌≡◌, ◌&&◌, leb};
 ghost use Rattle.paper.specs.Order.{whole};
 ghost use Rattle.answer.specs.Answer.{number_of};
-ghost use Rattle.join_answer.specs.Judge.{judged, judgedOr};
+ghost use Rattle.join_answer.specs.Judge.{judged, judged_or};
 
 use answer::Answer;
 
@@ -39,7 +39,7 @@ fn is_early(number: u16) -> bool
 // What is answered after a check of the drawing where something else is judged too: whether it is right, and what is refused where it
 // is not. That comes after 4 and before 5.
 pub fn judged_or(checked: Answer, right: bool, refusal: Answer) -> Answer
-    ensures { number_of result ≡ judgedOr (number_of checked) right (number_of refusal) }
+    ensures { number_of result ≡ judged_or (number_of checked) right (number_of refusal) }
 {
     if is_early(checked.number()) {
         return checked;

@@ -8,16 +8,16 @@ use lib.ListN.{length, replicate, length-replicate}
 use Rattle.paper.specs.Drawing.{Tables}
 use Rattle.paper.specs.Refusal.{sized, stated, cleared}
 
-pub cleared-twice : (ws : List (List ℕ)) → cleared (cleared ws) ≡ cleared ws
+pub cleared_twice : (ws : List (List ℕ)) → cleared (cleared ws) ≡ cleared ws
 unfolding cleared
-cleared-twice [] = refl
-cleared-twice (t ∷ ts) = ap₂ ◌∷◌ (ap (λ n. replicate n 0) (length-replicate (length t) 0)) (cleared-twice ts)
+cleared_twice [] = refl
+cleared_twice (t ∷ ts) = ap₂ ◌∷◌ (ap (λ n. replicate n 0) (length-replicate (length t) 0)) (cleared_twice ts)
 
-cleared-sized : (n : ℕ) (ws : List (List ℕ)) → sized n (cleared ws) ≡ sized n ws
+cleared_sized : (n : ℕ) (ws : List (List ℕ)) → sized n (cleared ws) ≡ sized n ws
 unfolding cleared sized
-cleared-sized n [] = refl
-cleared-sized n (t ∷ ts) = ap₂ ◌&&◌ (ap (λ k. eqb k n) (length-replicate (length t) 0)) (cleared-sized n ts)
+cleared_sized n [] = refl
+cleared_sized n (t ∷ ts) = ap₂ ◌&&◌ (ap (λ k. eqb k n) (length-replicate (length t) 0)) (cleared_sized n ts)
 
-pub cleared-stated : (w h : ℕ) (t : Tables) (ws : List (List ℕ)) → stated w h t (cleared ws) ≡ stated w h t ws
+pub cleared_stated : (w h : ℕ) (t : Tables) (ws : List (List ℕ)) → stated w h t (cleared ws) ≡ stated w h t ws
 unfolding stated sized
-cleared-stated w h t ws = rw cleared-sized
+cleared_stated w h t ws = rw cleared_sized

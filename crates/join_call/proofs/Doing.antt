@@ -9,32 +9,32 @@ use Prim.Native.Nat.{ℕ}
 use Rattle.sheet_size.specs.Size.{within}
 use Rattle.paper.specs.Drawing.{Tables, Drawn}
 use Rattle.paper.specs.Joining.{joined}
-use Rattle.paper.specs.Refusal.{outcome, workLeft, cleared, seven}
+use Rattle.paper.specs.Refusal.{outcome, work_left, cleared, seven}
 use Rattle.paper.specs.Sitting.{Joinable}
-use Rattle.paper_laws.proofs.IsDrawing.{is-drawing-drawn}
+use Rattle.paper_laws.proofs.IsDrawing.{is_drawing_drawn}
 use Rattle.answer.specs.declared.Answer.{Answer}
 use Rattle.answer.specs.Answer.{number_of, told}
-use Rattle.answer.proofs.Outcome.{told-refused, told-done}
+use Rattle.answer.proofs.Outcome.{told_refused, told_done}
 use Rattle.table_lengths.specs.Given.{works}
 use Rattle.check_answer.specs.Check.{checked}
-use Rattle.check_answer.proofs.Given.{accepted-within, accepted-stated, accepted-is-drawing, accepted-work}
+use Rattle.check_answer.proofs.Given.{accepted_within, accepted_stated, accepted_is_drawing, accepted_work}
 use Rattle.join_rule.specs.Apply.{pair, Ready}
-use Rattle.join_rule.proofs.Readiness.{drawn-ready, rest-cleared}
+use Rattle.join_rule.proofs.Readiness.{drawn_ready, rest_cleared}
 use Rattle.join_call.specs.Faithful.{Faithful}
-use Rattle.join_call.proofs.Afresh.{joined-faithful}
-use Rattle.join_call.proofs.Cleared.{cleared-twice, cleared-stated}
+use Rattle.join_call.proofs.Afresh.{joined_faithful}
+use Rattle.join_call.proofs.Cleared.{cleared_twice, cleared_stated}
 
 -- Joining a and b in the tables t after a check that answered v and left the work tables vs: o is answered to the call, of the number
 -- k, which leaves the work tables so; where it is 0 the check accepted, and the two may be joined.
 module _ (w h : ℕ) (t : Tables) (a b : ℕ) (ws vs : List (List ℕ)) (v : Answer) (c : told v (seven t) vs ≡ checked w h t ws)
-    (k : ℕ) (l : vs ≡ workLeft k ws) (f : k ≡ 0 → (number_of v ≡ 0) × Joinable w h t a b) (o : Answer) (e : number_of o ≡ k) where
+    (k : ℕ) (l : vs ≡ work_left k ws) (f : k ≡ 0 → (number_of v ≡ 0) × Joinable w h t a b) (o : Answer) (e : number_of o ≡ k) where
   -- what is promised of the tables u and the work tables xs that it leaves with the answer r
   abbrev pub Promised : Answer → Tables → List (List ℕ) → Type 0
   Promised r u xs =
       (told r (seven u) xs ≡ outcome k [] (seven t) (seven (joined w h t a b)) ws) × (number_of r ≡ 0 → Faithful w h t u a b)
 
-  pub join-stops : number_of o ≢ 0 → Promised o t vs
-  join-stops n = (told-refused o k e n [] (seven t) (seven (joined w h t a b)) ws vs l, λ z. absurd (n z))
+  pub join_stops : number_of o ≢ 0 → Promised o t vs
+  join_stops n = (told_refused o k e n [] (seven t) (seven (joined w h t a b)) ws vs l, λ z. absurd (n z))
 
   -- Nothing is refused.
   module _ (z : number_of o ≡ 0) where
@@ -45,25 +45,25 @@ module _ (w h : ℕ) (t : Tables) (a b : ℕ) (ws vs : List (List ℕ)) (v : Ans
     joinable = (f (sym e ∙ z)).1
 
     size : within w h ≡ true
-    size = accepted-within w h t ws v vs c done
+    size = accepted_within w h t ws v vs c done
 
     drawn : Drawn w h t
-    drawn = is-drawing-drawn w h t (accepted-is-drawing w h t ws v vs c done)
+    drawn = is_drawing_drawn w h t (accepted_is_drawing w h t ws v vs c done)
 
     work : vs ≡ cleared ws
-    work = accepted-work w h t ws v vs c done
+    work = accepted_work w h t ws v vs c done
 
-    pub join-ready : Ready w h t vs a b
-    join-ready =
-        drawn-ready w h t vs a b size (rw (work, cleared-stated) (accepted-stated w h t ws v vs c done)) drawn joinable
+    pub join_ready : Ready w h t vs a b
+    join_ready =
+        drawn_ready w h t vs a b size (rw (work, cleared_stated) (accepted_stated w h t ws v vs c done)) drawn joinable
 
-    pub join-done : (c d e f x y : List ℕ) → vs ≡ works c d e f → (u : Tables) → u ≡ joined w h t a b
+    pub join_done : (c d e f x y : List ℕ) → vs ≡ works c d e f → (u : Tables) → u ≡ joined w h t a b
         → pair x y ≡ cleared (pair c d) → Promised Answer.Done u (works x y e f)
     unfolding number_of
-    join-done c d e₁ f₁ x y s u p q =
+    join_done c d e₁ f₁ x y s u p q =
         let m : works c d e₁ f₁ ≡ cleared ws = sym s ∙ work in
-        let r : works c d e₁ f₁ ≡ cleared (works c d e₁ f₁) = m ∙ sym (cleared-twice ws) ∙ ap cleared (sym m) in
-        let i : works x y e₁ f₁ ≡ cleared ws = rest-cleared c d e₁ f₁ r x y q ∙ ap cleared m ∙ cleared-twice ws in (
-          told-done Answer.Done k (sym z ∙ e) refl (seven t) (seven (joined w h t a b)) ws (seven u) (works x y e₁ f₁) (ap seven p) i,
-          λ y. joined-faithful w h t u a b size drawn joinable p,
+        let r : works c d e₁ f₁ ≡ cleared (works c d e₁ f₁) = m ∙ sym (cleared_twice ws) ∙ ap cleared (sym m) in
+        let i : works x y e₁ f₁ ≡ cleared ws = rest_cleared c d e₁ f₁ r x y q ∙ ap cleared m ∙ cleared_twice ws in (
+          told_done Answer.Done k (sym z ∙ e) refl (seven t) (seven (joined w h t a b)) ws (seven u) (works x y e₁ f₁) (ap seven p) i,
+          λ y. joined_faithful w h t u a b size drawn joinable p,
         )

@@ -1,6 +1,6 @@
 ghost use Rattle.std.specs.Prelude.{◌≡◌};
 ghost use Rattle.paper.specs.Refusal.{seven};
-ghost use Rattle.paper.specs.Order.{mergedList};
+ghost use Rattle.paper.specs.Order.{merged_list};
 ghost use Rattle.table_lengths.specs.Given.{tables, works};
 ghost use Rattle.join_list.specs.Answer.{listed};
 
@@ -34,7 +34,7 @@ pub fn join_list(
         (tables next1.new side1.new next3.new other3.new parent.new
         cells.new borders.new))
         (works work_a.new work_b.new work_c.new work_d.new) ≡
-        mergedList width height
+        merged_list width height
         (tables next1.old side1.old next3.old other3.old parent.old
         cells.old borders.old)
         names.now

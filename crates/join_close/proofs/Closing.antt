@@ -18,15 +18,15 @@ use Rattle.join_darts.specs.Links.{links}
 use Rattle.region_parents.specs.Tops.{Rising}
 
 -- the two stores into each table
-pub move-loop : (n o n₁ n₂ o₁ o₂ : List ℕ) (u v e f : ℕ) → n₁ ≡ set (set n u mark) v mark → n₂ ≡ set (set n₁ e e) f f
+pub move_loop : (n o n₁ n₂ o₁ o₂ : List ℕ) (u v e f : ℕ) → n₁ ≡ set (set n u mark) v mark → n₂ ≡ set (set n₁ e e) f f
     → o₁ ≡ set (set o u mark) v mark → o₂ ≡ set (set o₁ e f) f e → links n₂ o₂ ≡ moved (links n o) u v e f
 unfolding moved
-move-loop n o n₁ n₂ o₁ o₂ u v e f a b c d = rw (b, d, a, c)
+move_loop n o n₁ n₂ o₁ o₂ u v e f a b c d = rw (b, d, a, c)
 
 -- no top is after its point
-pub top-fit : (t : List ℕ) (p n : ℕ) → Rising t → dart p 3 < n → dart (get_or t p 0) 3 < n
+pub top_fit : (t : List ℕ) (p n : ℕ) → Rising t → dart p 3 < n → dart (get_or t p 0) 3 < n
 unfolding dart
-top-fit t p n r h = let u = r.up p in omega arith
+top_fit t p n r h = let u = r.up p in omega arith
 
 -- a point with the level 3 lines m is treated by whether they are two, and one edge, and which lines n are left
 module _ (o : ℕ → Bool) (t : List ℕ) (l : Links) (p m : ℕ) (q : m ≡ mask (on l.next) p) (c : Bool)
@@ -45,45 +45,45 @@ module _ (o : ℕ → Bool) (t : List ℕ) (l : Links) (p m : ℕ) (q : m ≡ ma
     here : eqb (degree lines) 2 ≡ true
     here = sym counted ∙ two
 
-    low-line : u ≡ dart p (low lines)
-    low-line = first ∙ ap (λ i. dart p (low i)) q
+    low_line : u ≡ dart p (low lines)
+    low_line = first ∙ ap (λ i. dart p (low i)) q
 
-    high-line : v ≡ dart p (high lines)
-    high-line = last ∙ ap (λ i. dart p (high i)) q
+    high_line : v ≡ dart p (high lines)
+    high_line = last ∙ ap (λ i. dart p (high i)) q
 
     across : at l.other (dart p (low lines)) ≡ x
-    across = ap (at l.other) (sym low-line) ∙ sym e
+    across = ap (at l.other) (sym low_line) ∙ sym e
 
     abbrev ends : Bool
     ends = eqb (at l.other (dart p (low lines))) (dart p (high lines))
 
-    pub close-edges : (x ≡ v → ⊥) → l ≡ close o t l p
+    pub close_edges : (x ≡ v → ⊥) → l ≡ close o t l p
     unfolding close
-    close-edges n =
-        let f : ends ≡ false = ne_eqb _ _ (λ r. n (sym across ∙ r ∙ sym high-line)) in
+    close_edges n =
+        let f : ends ≡ false = ne_eqb _ _ (λ r. n (sym across ∙ r ∙ sym high_line)) in
         rw (here, f, close)
 
     module _ (loop : x ≡ v) (n : ℕ) (g : n ≡ mask o p) (b : Bool) (r : b ≡ eqb (degree n) 2) where
       round : ends ≡ true
-      round = eq-eqb _ _ (across ∙ loop ∙ high-line)
+      round = eq-eqb _ _ (across ∙ loop ∙ high_line)
 
       remain : b ≡ eqb (degree (mask o p)) 2
       remain = r ∙ ap (λ i. eqb (degree i) 2) g
 
-      pub close-big : b ≡ false → l ≡ close o t l p
+      pub close_big : b ≡ false → l ≡ close o t l p
       unfolding close
-      close-big h = rw (here, round, sym remain ∙ h, close)
+      close_big h = rw (here, round, sym remain ∙ h, close)
 
-      pub close-loop : b ≡ true → (i : ℕ) → i ≡ mask o (get_or t p 0) → (e f : ℕ) → e ≡ dart (get_or t p 0) (low i)
+      pub close_loop : b ≡ true → (i : ℕ) → i ≡ mask o (get_or t p 0) → (e f : ℕ) → e ≡ dart (get_or t p 0) (low i)
           → f ≡ dart (get_or t p 0) (high i) → moved l u v e f ≡ close o t l p
       unfolding close
-      close-loop h i j e f a d = rw (here, round, sym remain ∙ h, low-line, high-line, a, d, j, close)
+      close_loop h i j e f a d = rw (here, round, sym remain ∙ h, low_line, high_line, a, d, j, close)
 
 module _ (o : ℕ → Bool) (t : List ℕ) where
-  pub closes-none : (p : ℕ) (l : Links) → closes o t zero p l ≡ l
+  pub closes_none : (p : ℕ) (l : Links) → closes o t zero p l ≡ l
   unfolding closes
-  closes-none p l = refl
+  closes_none p l = refl
 
-  pub closes-more : (n p : ℕ) (l : Links) → closes o t (suc n) p l ≡ closes o t n (suc p) (close o t l p)
+  pub closes_more : (n p : ℕ) (l : Links) → closes o t (suc n) p l ≡ closes o t n (suc p) (close o t l p)
   unfolding closes
-  closes-more n p l = refl
+  closes_more n p l = refl

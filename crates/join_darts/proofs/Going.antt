@@ -16,22 +16,22 @@ use Rattle.join_darts.specs.Listed.{First}
 use Rattle.join_darts.specs.Visited.{Visited}
 
 -- the darts that leave a point
-point-span : (d : ℕ) → (4 * point d ≤ d) × (d < 4 * point d + 4)
+point_span : (d : ℕ) → (4 * point d ≤ d) × (d < 4 * point d + 4)
 unfolding point
-point-span d = (omega arith, omega arith)
+point_span d = (omega arith, omega arith)
 
 -- a recursion that treats the first point first treats the last point last
 module _ (steps : ℕ → ℕ → Links → Links) (step : Links → ℕ → Links)
     (none : (p : ℕ) (l : Links) → steps zero p l ≡ l)
     (more : (n p : ℕ) (l : Links) → steps (suc n) p l ≡ steps n (suc p) (step l p)) where
-  steps-last : (i p : ℕ) (l : Links) → steps (suc i) p l ≡ step (steps i p l) (p + i)
-  steps-last zero p l = more zero p l ∙ none (suc p) (step l p) ∙ rw (none p l, add-zero p)
-  steps-last (suc i) p l =
-      more (suc i) p l ∙ steps-last i (suc p) (step l p) ∙ rw (more i p l, add-suc p i, suc-add p i)
+  steps_last : (i p : ℕ) (l : Links) → steps (suc i) p l ≡ step (steps i p l) (p + i)
+  steps_last zero p l = more zero p l ∙ none (suc p) (step l p) ∙ rw (none p l, add-zero p)
+  steps_last (suc i) p l =
+      more (suc i) p l ∙ steps_last i (suc p) (step l p) ∙ rw (more i p l, add-suc p i, suc-add p i)
 
   module _ (w h : ℕ) (l : Links) (first : ℕ) (t : List ℕ) (g : Visited steps step l (slots w h) first t) where
     grown : (i : ℕ) → steps (suc i) 0 l ≡ step (steps i 0 l) i
-    grown i = steps-last i 0 l ∙ ap (step (steps i 0 l)) (zero-add i)
+    grown i = steps_last i 0 l ∙ ap (step (steps i 0 l)) (zero-add i)
 
     -- points that no dart of the list leaves
     skipped : (i j : ℕ) → ((d : ℕ) → i ≤ point d → point d < i + j → g.test d ≡ false)
@@ -56,7 +56,7 @@ module _ (steps : ℕ → ℕ → Links → Links) (step : Links → ℕ → Lin
       unfolding slots
       between n c q s =
           let z : i + (n - i) ≡ n = omega arith in
-          treated ∙ sym (skipped i (n - i) (λ x u v. r.gap x (omega (arith, point-span x)) (omega (arith, point-span x))))
+          treated ∙ sym (skipped i (n - i) (λ x u v. r.gap x (omega (arith, point_span x)) (omega (arith, point_span x))))
           ∙ ap (λ n. steps n 0 l) z
 
       here : d < slots w h → i ≤ suc (point d) → step k (point d) ≡ steps (suc (point d)) 0 l
@@ -68,7 +68,7 @@ module _ (steps : ℕ → ℕ → Links → Links) (step : Links → ℕ → Lin
               let z : i ≡ suc (point d) = omega arith in
               ap (λ k. step k (point d)) treated ∙ g.still i (point d) (inr q) ∙ ap (λ n. steps n 0 l) z
           go (no q) =
-              ap (λ k. step k (point d)) (between (point d) (omega (arith, point-span d)) (omega (arith, point-span d)) (omega arith))
+              ap (λ k. step k (point d)) (between (point d) (omega (arith, point_span d)) (omega (arith, point_span d)) (omega arith))
               ∙ sym (grown (point d))
 
       arrived : i ≤ suc (point d) → length k.next ≡ length l.next → length k.other ≡ length l.other → Going d k
@@ -92,8 +92,8 @@ module _ (steps : ℕ → ℕ → Links → Links) (step : Links → ℕ → Lin
     unfolding slots
     going_on d k j c b e p q =
         let f = g.list.steps d b (c.listed b) in
-        let s = point-span d in
-        let u = point-span (get_or t d 0) in
+        let s = point_span d in
+        let u = point_span (get_or t d 0) in
         arrived (d + 1) (get_or t d 0) (suc (point d)) j f (omega arith) (omega arith) (e ∙ c.next b) (omega (arith, f.after))
         (p ∙ c.nexts) (q ∙ c.others)
 

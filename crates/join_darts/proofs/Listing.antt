@@ -28,8 +28,8 @@ gap_more q i j g h d l u = go (ℕ_discrete d j)
     go (yes z) = rw z h
     go (no z) = g d l (omega arith)
 
-pub gap-after : (q : ℕ → Bool) (i j n : ℕ) → Gap q i j → Gap q j n → Gap q i n
-gap-after q i j n g f d l u = go (dec_lt d j)
+pub gap_after : (q : ℕ → Bool) (i j n : ℕ) → Gap q i j → Gap q j n → Gap q i n
+gap_after q i j n g f d l u = go (dec_lt d j)
   where
     go : Dec (d < j) → q d ≡ false
     go (yes z) = g d l z
@@ -51,14 +51,14 @@ module _ (q : ℕ → Bool) (n : ℕ) where
       }
 
   -- slots more, of which none passes
-  pub listing-gap : (i j f : ℕ) (t : List ℕ) → Listing q n i f t → j ≤ i → Gap q j i → Listing q n j f t
-  listing-gap i j f t r h g =
+  pub listing_gap : (i j f : ℕ) (t : List ℕ) → Listing q n i f t → j ≤ i → Gap q j i → Listing q n j f t
+  listing_gap i j f t r h g =
       record {
         first = record {
           after = omega (arith, r.first.after);
           inside = r.first.inside;
           here = r.first.here;
-          gap = gap-after q j i f g r.first.gap;
+          gap = gap_after q j i f g r.first.gap;
         };
         steps = λ d a b p. go_on d a b p (dec_lt d i);
         long = r.long;
@@ -80,13 +80,13 @@ module _ (q : ℕ → Bool) (n : ℕ) where
             rw (z, get_or-set_same t j f 0 (omega (arith, r.long, r.room)), e) r.first
         go (no z) = rw (get_or-set_other t j d f 0 z) (r.steps d (omega arith) b p)
 
-    listing-set : (g : ℕ) → First q n j g → Listing q n j g (set t j f)
-    listing-set g h =
+    listing_set : (g : ℕ) → First q n j g → Listing q n j g (set t j f)
+    listing_set g h =
         record { first = h; steps = steps; long = length-set t j f ∙ r.long; room = omega (arith, r.room) }
 
-    pub listing-more : q j ≡ true → Listing q n j j (set t j f)
-    listing-more h =
-        listing-set j
+    pub listing_more : q j ≡ true → Listing q n j j (set t j f)
+    listing_more h =
+        listing_set j
         record {
           after = le_refl j;
           inside = omega (arith, r.room);
@@ -94,14 +94,14 @@ module _ (q : ℕ → Bool) (n : ℕ) where
           gap = λ k a b. absurd (omega arith);
         }
 
-    pub listing-less : q j ≡ false → Listing q n j f (set t j f)
-    listing-less h =
-        listing-set f
-        (listing-gap i j f t r (omega arith) (λ d a b. let z : d ≡ j = omega arith in rw z h)).first
+    pub listing_less : q j ≡ false → Listing q n j f (set t j f)
+    listing_less h =
+        listing_set f
+        (listing_gap i j f t r (omega arith) (λ d a b. let z : d ≡ j = omega arith in rw z h)).first
 
   -- all slots
-  pub listing-all : (i f : ℕ) (t : List ℕ) → Listing q n i f t → i ≤ 0 → Listed q n f t
-  listing-all i f t r h =
+  pub listing_all : (i f : ℕ) (t : List ℕ) → Listing q n i f t → i ≤ 0 → Listed q n f t
+  listing_all i f t r h =
       let z : i ≡ 0 = omega arith in
       record {
         start = rw z at r.first;
@@ -109,10 +109,10 @@ module _ (q : ℕ → Bool) (n : ℕ) where
       }
 
 -- a slot's side, read
-pub bounds-here : (s : List ℕ) (a b j : ℕ) (c : Bool) → j < length s → (eqb (get_or s j 0) a || eqb (get_or s j 0) b) ≡ c
+pub bounds_here : (s : List ℕ) (a b j : ℕ) (c : Bool) → j < length s → (eqb (get_or s j 0) a || eqb (get_or s j 0) b) ≡ c
     → bounds s a b j ≡ c
 unfolding bounds
-bounds-here s a b j c h e = rw (at_entry s j h) e
+bounds_here s a b j c h e = rw (at_entry s j h) e
 
 -- one of two more tests, or neither
 neither : (free x y : Bool) → ((free && not x) && not y) ≡ true → (free ≡ true) × ((x || y) ≡ false)
@@ -132,22 +132,22 @@ module _ (s : List ℕ) (a b low i : ℕ) (free : Bool) (l : low ≤ i) (h : i <
   abbrev now : Bool
   now = (free && not (eqb (get_or s i 0) a)) && not (eqb (get_or s i 0) b)
 
-  pub asked-none : (free ≡ true → Gap (bounds s a b) low i) → now ≡ true → Gap (bounds s a b) low (i + 1)
-  asked-none f e =
+  pub asked_none : (free ≡ true → Gap (bounds s a b) low i) → now ≡ true → Gap (bounds s a b) low (i + 1)
+  asked_none f e =
       let (was, here) = neither free (eqb (get_or s i 0) a) (eqb (get_or s i 0) b) e in
-      gap_more (bounds s a b) low i (f was) (bounds-here s a b i false h here)
+      gap_more (bounds s a b) low i (f was) (bounds_here s a b i false h here)
 
-  pub asked-one : (free ≡ false → Met (bounds s a b) low i) → now ≡ false → Met (bounds s a b) low (i + 1)
-  asked-one f e =
+  pub asked_one : (free ≡ false → Met (bounds s a b) low i) → now ≡ false → Met (bounds s a b) low (i + 1)
+  asked_one f e =
       ⊎_elim
       (λ was. let m = f was in record { slot = m.slot; after = m.after; before = omega (arith, m.before); passes = m.passes })
-      (λ here. record { slot = i; after = l; before = omega arith; passes = bounds-here s a b i true h here })
+      (λ here. record { slot = i; after = l; before = omega arith; passes = bounds_here s a b i true h here })
       (one_of free (eqb (get_or s i 0) a) (eqb (get_or s i 0) b) e)
 
 -- a list of the darts of a and b, and one of those that have a next
 module _ (s n : List ℕ) (a b m f : ℕ) (t : List ℕ) where
-  pub bounded-all : Listed (bounds s a b) m f t → Bounded s n a b m f t
-  bounded-all l = record { test = bounds s a b; list = l; all = λ d e h. e }
+  pub bounded_all : Listed (bounds s a b) m f t → Bounded s n a b m f t
+  bounded_all l = record { test = bounds s a b; list = l; all = λ d e h. e }
 
-  pub bounded-on : Listed (λ d. bounds s a b d && on n d) m f t → Bounded s n a b m f t
-  bounded-on l = record { test = λ d. bounds s a b d && on n d; list = l; all = λ d e h. rw (e, h) }
+  pub bounded_on : Listed (λ d. bounds s a b d && on n d) m f t → Bounded s n a b m f t
+  bounded_on l = record { test = λ d. bounds s a b d && on n d; list = l; all = λ d e h. rw (e, h) }

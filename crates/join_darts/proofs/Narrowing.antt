@@ -14,31 +14,31 @@ use lib.Seq.{get_or-set_same, get_or-set_other}
 use Rattle.laws.proofs.Test.{clash}
 use Rattle.point_darts.specs.Dart.{mark}
 use Rattle.paper.specs.Joining.{on}
-use Rattle.table_entries.proofs.Entries.{at_entry, on-mark, on-entry}
+use Rattle.table_entries.proofs.Entries.{at_entry, on_mark, on_entry}
 use Rattle.join_darts.specs.Listed.{First, Listed, Listing}
 
 -- an entry, read
 module _ (t : List ℕ) (d : ℕ) (b : d < length t) where
-  pub read-on : (get_or t d 0 ≡ mark → ⊥) → on t d ≡ true
-  read-on e = on-entry t d (λ z. e (sym (at_entry t d b) ∙ z))
+  pub read_on : (get_or t d 0 ≡ mark → ⊥) → on t d ≡ true
+  read_on e = on_entry t d (λ z. e (sym (at_entry t d b) ∙ z))
 
   pub read_off : get_or t d 0 ≡ mark → on t d ≡ false
-  read_off e = on-mark t d (at_entry t d b ∙ e)
+  read_off e = on_mark t d (at_entry t d b ∙ e)
 
 -- a list of all slots, followed from its first
-pub listed-all : (q : ℕ → Bool) (i : ℕ) (s : List ℕ) → Listed q (length s) i s → Listing q (length s) 0 i s
-listed-all q i s l =
+pub listed_all : (q : ℕ → Bool) (i : ℕ) (s : List ℕ) → Listed q (length s) i s → Listing q (length s) 0 i s
+listed_all q i s l =
     record { first = l.start; steps = λ d a b e. l.steps d b e; long = refl; room = omega arith }
 
 module _ (q p : ℕ → Bool) (n : ℕ) where
   abbrev both : ℕ → Bool
   both d = q d && p d
 
-  first-fails : (d : ℕ) → q d ≡ false → both d ≡ false
-  first-fails d e = rw e
+  first_fails : (d : ℕ) → q d ≡ false → both d ≡ false
+  first_fails d e = rw e
 
-  second-fails : (d : ℕ) → p d ≡ false → both d ≡ false
-  second-fails d e = go (q d) e
+  second_fails : (d : ℕ) → p d ≡ false → both d ≡ false
+  second_fails d e = go (q d) e
     where
       go : (c : Bool) → p d ≡ false → (c && p d) ≡ false
       go true z = z
@@ -58,18 +58,18 @@ module _ (q p : ℕ → Bool) (n : ℕ) where
     pub here : d < n → q d ≡ true
     pub gap : (k : ℕ) → i ≤ k → k < d → both k ≡ false
 
-  pub reached-none : (i f : ℕ) (t : List ℕ) → Listing q n i f t → Reached i f
-  reached-none i f t l =
+  pub reached_none : (i f : ℕ) (t : List ℕ) → Listing q n i f t → Reached i f
+  reached_none i f t l =
       record {
         after = l.first.after;
         inside = l.first.inside;
         here = l.first.here;
-        gap = λ k a b. first-fails k (l.first.gap k a b);
+        gap = λ k a b. first_fails k (l.first.gap k a b);
       }
 
-  pub reached-more : (i f d : ℕ) (t : List ℕ) → Listing q n i f t → Reached i d → d < n → p d ≡ false
+  pub reached_more : (i f d : ℕ) (t : List ℕ) → Listing q n i f t → Reached i d → d < n → p d ≡ false
       → Reached i (get_or t d 0)
-  reached-more i f d t l r b e =
+  reached_more i f d t l r b e =
       let s = l.steps d r.after b (r.here b) in
       record {
         after = omega (arith, r.after, s.after);
@@ -81,15 +81,15 @@ module _ (q p : ℕ → Bool) (n : ℕ) where
       go : First q n (d + 1) (get_or t d 0) → (k : ℕ) → i ≤ k → k < get_or t d 0 → Dec (k < d) → Dec (k ≡ d)
           → both k ≡ false
       go s k x y (yes z) w = r.gap k x z
-      go s k x y (no z) (yes w) = rw w (second-fails d e)
-      go s k x y (no z) (no w) = first-fails k (s.gap k (omega arith) y)
+      go s k x y (no z) (yes w) = rw w (second_fails d e)
+      go s k x y (no z) (no w) = first_fails k (s.gap k (omega arith) y)
 
-  pub reached-here : (i d : ℕ) → Reached i d → d < n → p d ≡ true → First both n i d
-  reached-here i d r b e =
+  pub reached_here : (i d : ℕ) → Reached i d → d < n → p d ≡ true → First both n i d
+  reached_here i d r b e =
       record { after = r.after; inside = r.inside; here = λ c. rw (r.here c, e); gap = r.gap }
 
-  pub reached-end : (i d : ℕ) → Reached i d → n ≤ d → First both n i d
-  reached-end i d r b =
+  pub reached_end : (i d : ℕ) → Reached i d → n ≤ d → First both n i d
+  reached_end i d r b =
       record { after = r.after; inside = r.inside; here = λ c. absurd (omega arith); gap = r.gap }
 
   -- of the list s, the table t has the slots below d that pass both tests, and the others still
@@ -115,8 +115,8 @@ module _ (q p : ℕ → Bool) (n : ℕ) where
 
     module _ (f d : ℕ) (t : List ℕ) (r : Narrowed s f d t) (b : d < n) where
       -- the list from a slot that passes on
-      pub narrowed-rest : Listing q n (d + 1) (get_or t d 0) t
-      narrowed-rest =
+      pub narrowed_rest : Listing q n (d + 1) (get_or t d 0) t
+      narrowed_rest =
           record {
             first = rw (r.rest d (omega arith)) (l.steps d b (first_passes d (r.here b)));
             steps = λ k x y e. rw (r.rest k (omega arith)) (l.steps k y e);
@@ -124,8 +124,8 @@ module _ (q p : ℕ → Bool) (n : ℕ) where
             room = omega arith;
           }
 
-      pub narrowed-more : (e : ℕ) → First both n (d + 1) e → Narrowed s f e (set t d e)
-      narrowed-more e g =
+      pub narrowed_more : (e : ℕ) → First both n (d + 1) e → Narrowed s f e (set t d e)
+      narrowed_more e g =
           record {
             start = r.start;
             here = g.here;
@@ -140,6 +140,6 @@ module _ (q p : ℕ → Bool) (n : ℕ) where
           go k x y (no z) (yes w) = rw (w, get_or-set_same t d e 0 (omega (arith, r.long, long))) g
           go k x y (no z) (no w) = clash y (g.gap k (omega arith) x)
 
-    pub narrowed-all : (f d : ℕ) (t : List ℕ) → Narrowed s f d t → n ≤ d → Listed both n f t
-    narrowed-all f d t r b =
+    pub narrowed_all : (f d : ℕ) (t : List ℕ) → Narrowed s f d t → n ≤ d → Listed both n f t
+    narrowed_all f d t r b =
         record { start = r.start; steps = λ k x y. r.done k (omega arith) y }

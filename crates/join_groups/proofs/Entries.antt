@@ -11,11 +11,11 @@ use lib.Dec.{eqb, leb}
 use lib.ListN.{length, get_or, take, drop, length-drop}
 use lib.Seq.{take_all}
 use borrow.Author.Tests.{leb-true}
-use Rattle.laws.specs.First.{firstFailed}
+use Rattle.laws.specs.First.{first_failed}
 use Rattle.laws.proofs.Test.{and_right}
 use Rattle.paper.specs.Drawing.{Tables}
 use Rattle.paper.specs.Joining.{joined}
-use Rattle.paper.specs.Refusal.{pairTests}
+use Rattle.paper.specs.Refusal.{pair_tests}
 use Rattle.paper.specs.Order.{pairs, whole, unless, joins, stop}
 
 pub record Going (w h : ℕ) (l : List ℕ) (t u : Tables) (r : List ℕ) (i : ℕ) : Type 0 where
@@ -23,9 +23,9 @@ pub record Going (w h : ℕ) (l : List ℕ) (t u : Tables) (r : List ℕ) (i : �
   pub long : 2 * i + length r ≡ length l
 
 -- a list that may be lent has at most 7,919 entries
-pub whole-most : (w n : ℕ) → whole w n ≡ true → n ≤ 15838
+pub whole_most : (w n : ℕ) → whole w n ≡ true → n ≤ 15838
 unfolding whole
-whole-most w n e = by (leb w 72) refl
+whole_most w n e = by (leb w 72) refl
   where
     long : n ≤ 2 * cond (leb w 72) 5183 7919
     long = leb-true n (2 * cond (leb w 72) 5183 7919) (and_right (eqb (n % 2) 0) (leb n (2 * cond (leb w 72) 5183 7919)) e)
@@ -44,8 +44,8 @@ pairs_next (a ∷ b ∷ r) l = refl
 rest_all : (r : List ℕ) → take (length r - 2) (drop 2 r) ≡ drop 2 r
 rest_all r = take_all (length r - 2) (drop 2 r) (rw length-drop (le_refl _))
 
-pub rest-less : (r : List ℕ) → 1 < length r → length (take (length r - 2) (drop 2 r)) < length r
-rest-less r l = rw rest_all (omega (arith, length-drop 2 r))
+pub rest_less : (r : List ℕ) → 1 < length r → length (take (length r - 2) (drop 2 r)) < length r
+rest_less r l = rw rest_all (omega (arith, length-drop 2 r))
 
 pairs_end : (r : List ℕ) → length r ≤ 1 → pairs r ≡ []
 unfolding pairs
@@ -63,15 +63,15 @@ module _ (w h : ℕ) (l : List ℕ) (t : Tables) where
     unfolding joins
     going_end e = rw (pairs_end r e) at g.on
 
-    module _ (e : 1 < length r) (k : ℕ) (f : k ≡ firstFailed (pairTests w h u.side1 u.parent (get_or r 0 0) (get_or r 1 0))) where
+    module _ (e : 1 < length r) (k : ℕ) (f : k ≡ first_failed (pair_tests w h u.side1 u.parent (get_or r 0 0) (get_or r 1 0))) where
       next : unless k i u (joins w h (suc i) (pairs (drop 2 r)) (joined w h u (get_or r 0 0) (get_or r 1 0))) ≡ joins w h 0 (pairs l) t
       unfolding joins
       next = rw f (rw (pairs_next r e) at g.on)
 
       -- the entry is refused
-      pub going-stops : k ≢ 0 → stop k i u ≡ joins w h 0 (pairs l) t
+      pub going_stops : k ≢ 0 → stop k i u ≡ joins w h 0 (pairs l) t
       unfolding unless
-      going-stops = by k next
+      going_stops = by k next
         where
           by : (k : ℕ)
               → unless k i u (joins w h (suc i) (pairs (drop 2 r)) (joined w h u (get_or r 0 0) (get_or r 1 0))) ≡ joins w h 0 (pairs l) t

@@ -9,29 +9,29 @@ use Prim.Native.Nat.{ℕ, zero, suc, ◌+◌, ◌*◌, ◌-◌, ◌≤◌, ◌<�
 use native.Mathlib.Decide.{ℕ_discrete}
 use native.Mathlib.Omega.{arith}
 use lib.ListN.{length, get_or}
-use Rattle.laws.specs.First.{firstFailed}
+use Rattle.laws.specs.First.{first_failed}
 use Rattle.laws.specs.Least.{lower}
-use Rattle.laws.proofs.Least.{lower-comm}
+use Rattle.laws.proofs.Least.{lower_comm}
 use Rattle.point_darts.specs.Dart.{mark}
 use Rattle.paper.specs.Name.{names}
 use Rattle.paper.specs.Total.{cells_of, total}
 use Rattle.paper.specs.Drawing.{Tables, drawn, drawing}
 use Rattle.paper.specs.Joining.{at, added, joined}
-use Rattle.paper.specs.Refusal.{used, adjoin, nameTests, pairTests}
+use Rattle.paper.specs.Refusal.{used, adjoin, name_tests, pair_tests}
 use Rattle.paper.specs.Sitting.{Joinable}
-use Rattle.paper_laws.proofs.Marks.{slots-most, cells-slots}
-use Rattle.paper_laws.proofs.Added.{cells-most, total-used, total-unused, at_totals}
-use Rattle.paper_laws.proofs.InUse.{used-cells, pair-cells}
+use Rattle.paper_laws.proofs.Marks.{slots_most, cells_slots}
+use Rattle.paper_laws.proofs.Added.{cells_most, total_used, total_unused, at_totals}
+use Rattle.paper_laws.proofs.InUse.{used_cells, pair_cells}
 use Rattle.answer.specs.declared.Answer.{Answer}
 use Rattle.answer.specs.Answer.{number_of}
-use Rattle.table_entries.proofs.Entries.{on-no-mark}
+use Rattle.table_entries.proofs.Entries.{on_no_mark}
 use Rattle.table_forest.specs.Forest.{Forest}
 use Rattle.region_darts.specs.Lists.{Of, Lists}
 use Rattle.join_answer.specs.Asked.{asked}
-use Rattle.join_answer.proofs.Asking.{asked-named, asked-apart, asked-done}
+use Rattle.join_answer.proofs.Asking.{asked_named, asked_apart, asked_done}
 use Rattle.join_groups.specs.Group.{group_of, Standing}
-use Rattle.join_groups.proofs.Grouping.{group-lower, grouped-joined}
-use Rattle.join_groups.proofs.Standing.{Chosen, room, standing-drawn, name_below, first_cell, some-dart, side-long}
+use Rattle.join_groups.proofs.Grouping.{group_lower, grouped_joined}
+use Rattle.join_groups.proofs.Standing.{Chosen, room, standing_drawn, name_below, first_cell, some_dart, side_long}
 
 pub done_none : number_of Answer.Done ≡ 0
 unfolding number_of
@@ -43,9 +43,9 @@ apart_some e = omega (arith, e)
 
 module _ (w h : ℕ) (s c n t f e : List ℕ) (u : Tables) (v : Standing w h s c n t f e u) where
   -- a region in use has no more cells than the sheet
-  count-below : (a : ℕ) → a ≢ 0 → used c a ≡ true → at c a ≤ w * h
+  count_below : (a : ℕ) → a ≢ 0 → used c a ≡ true → at c a ≤ w * h
   unfolding used drawing drawn
-  count-below a z q = by (ℕ_discrete (k a) 0)
+  count_below a z q = by (ℕ_discrete (k a) 0)
     where
       k : ℕ → ℕ
       k = cells_of w h (names w h v.grouped.after)
@@ -56,32 +56,32 @@ module _ (w h : ℕ) (s c n t f e : List ℕ) (u : Tables) (v : Standing w h s c
           ∙ at_totals w h k k a (name_below w h s c n t f e u v a q)
 
       by : Dec (k a ≡ 0) → at c a ≤ w * h
-      by (yes i) = absurd (on-no-mark c a q (here ∙ total-unused k k a z i))
-      by (no i) = rw (here ∙ total-used k k a i) (cells-most w h (names w h v.grouped.after) a)
+      by (yes i) = absurd (on_no_mark c a q (here ∙ total_unused k k a z i))
+      by (no i) = rw (here ∙ total_used k k a i) (cells_most w h (names w h v.grouped.after) a)
 
   module _ (a b : ℕ) where
     -- the number
-    told : (k : ℕ) → k ≡ asked Answer.Done w h u.side1 c a b → k ≡ firstFailed (pairTests w h u.side1 u.parent a b)
+    told : (k : ℕ) → k ≡ asked Answer.Done w h u.side1 c a b → k ≡ first_failed (pair_tests w h u.side1 u.parent a b)
     unfolding asked number_of
     told k q =
-        q ∙ ap (λ l. firstFailed (pairTests w h u.side1 l a b)) (sym v.cells)
-        ∙ pair-cells w h (room w h s c n t f e u v) u (standing-drawn w h s c n t f e u v) a b
+        q ∙ ap (λ l. first_failed (pair_tests w h u.side1 l a b)) (sym v.cells)
+        ∙ pair_cells w h (room w h s c n t f e u v) u (standing_drawn w h s c n t f e u v) a b
 
-    module _ (o : Answer) (q : number_of o ≡ firstFailed (nameTests c a b)) where
-      pub pair-named : number_of o ≢ 0 → number_of o ≡ firstFailed (pairTests w h u.side1 u.parent a b)
-      pair-named z = told (number_of o) (asked-named Answer.Done w h u.side1 c a b done_none o q z)
+    module _ (o : Answer) (q : number_of o ≡ first_failed (name_tests c a b)) where
+      pub pair_named : number_of o ≢ 0 → number_of o ≡ first_failed (pair_tests w h u.side1 u.parent a b)
+      pair_named z = told (number_of o) (asked_named Answer.Done w h u.side1 c a b done_none o q z)
 
       module _ (z : number_of o ≡ 0) (r : Bool) (g : r ≡ adjoin w h u.side1 a b) where
-        pub pair-apart : not r ≡ true → number_of Answer.Apart ≡ firstFailed (pairTests w h u.side1 u.parent a b)
-        pair-apart i = told (number_of Answer.Apart) (asked-apart Answer.Done w h u.side1 c a b done_none o q z r g i)
+        pub pair_apart : not r ≡ true → number_of Answer.Apart ≡ first_failed (pair_tests w h u.side1 u.parent a b)
+        pair_apart i = told (number_of Answer.Apart) (asked_apart Answer.Done w h u.side1 c a b done_none o q z r g i)
 
-        pub pair-done : not r ≡ false → number_of Answer.Done ≡ firstFailed (pairTests w h u.side1 u.parent a b)
-        pair-done i = told (number_of Answer.Done) (asked-done Answer.Done w h u.side1 c a b done_none o q z r g i)
+        pub pair_done : not r ≡ false → number_of Answer.Done ≡ first_failed (pair_tests w h u.side1 u.parent a b)
+        pair_done i = told (number_of Answer.Done) (asked_done Answer.Done w h u.side1 c a b done_none o q z r g i)
 
     -- what putting together asks
-    pub pair-ready : Chosen c a b → (a ≢ 0) × (b ≢ 0) × (a ≢ b) × (a ≤ length n) × (b ≤ length n) × (at c a + at c b ≤ mark)
+    pub pair_ready : Chosen c a b → (a ≢ 0) × (b ≢ 0) × (a ≢ b) × (a ≤ length n) × (b ≤ length n) × (at c a + at c b ≤ mark)
     unfolding mark
-    pair-ready k =
+    pair_ready k =
         let (x, y) = k.inner in
         let (p, q) = k.here in
         let i = name_below w h s c n t f e u v in (
@@ -90,7 +90,7 @@ module _ (w h : ℕ) (s c n t f e : List ℕ) (u : Tables) (v : Standing w h s c
           k.apart,
           rw v.noded (i a p),
           rw v.noded (i b q),
-          omega (arith, count-below a x p, count-below b y q, slots-most w h v.size, cells-slots w h),
+          omega (arith, count_below a x p, count_below b y q, slots_most w h v.size, cells_slots w h),
         )
 
   -- and what it leaves
@@ -105,7 +105,7 @@ module _ (w h : ℕ) (s c n t f e : List ℕ) (u : Tables) (v : Standing w h s c
     joinable k i =
         let same : (r : ℕ) → r ≢ 0 → used c r ≡ true → used u.parent r ≡ true =
         λ r z q.
-        sym (used-cells w h (room w h s c n t f e u v) u (standing-drawn w h s c n t f e u v) r z)
+        sym (used_cells w h (room w h s c n t f e u v) u (standing_drawn w h s c n t f e u v) r z)
         ∙ ap (λ k. used k r) v.cells ∙ q in
         record {
           inner = k.inner;
@@ -114,7 +114,7 @@ module _ (w h : ℕ) (s c n t f e : List ℕ) (u : Tables) (v : Standing w h s c
           neighbours = i;
         }
 
-    standing-suc : Chosen c (suc x) (suc y) → adjoin w h u.side1 (suc x) (suc y) ≡ true
+    standing_suc : Chosen c (suc x) (suc y) → adjoin w h u.side1 (suc x) (suc y) ≡ true
         → (c₁ n₁ t₁ e₁ : List ℕ) → length c₁ ≡ length c → length n₁ ≡ length n → length t₁ ≡ length t → length e₁ ≡ length e
         → c₁ ≡ added (suc x) (suc y) 0 c
         → ((m : ℕ) (l : List ℕ) → Forest m l n → suc x ≤ m → suc y ≤ m → get_or l x 0 ≡ x → get_or l y 0 ≡ y
@@ -123,11 +123,11 @@ module _ (w h : ℕ) (s c n t f e : List ℕ) (u : Tables) (v : Standing w h s c
         → Of s g (suc x) d → Of s g (suc y) k → Lists s g t f e → Lists s (λ v. lower (suc x) (suc y) (g v)) t₁ f e₁)
         → Standing w h s c₁ n₁ t₁ f e₁ (joined w h u (suc x) (suc y))
     unfolding joined
-    standing-suc k i c₁ n₁ t₁ e₁ lc ln lt le q o p =
+    standing_suc k i c₁ n₁ t₁ e₁ lc ln lt le q o p =
         let l = v.groups in
         let (ua, ub) = k.here in
-        let (d, i₁) = some-dart w h s c n t f e u v a k.inner.0 ua in
-        let (d₂, i₂) = some-dart w h s c n t f e u v b k.inner.1 ub in
+        let (d, i₁) = some_dart w h s c n t f e u v a k.inner.0 ua in
+        let (d₂, i₂) = some_dart w h s c n t f e u v b k.inner.1 ub in
         let ba = name_below w h s c n t f e u v a ua in
         let bb = name_below w h s c n t f e u v b ub in
         let r = v.listed in
@@ -140,14 +140,14 @@ module _ (w h : ℕ) (s c n t f e : List ℕ) (u : Tables) (v : Standing w h s c
           cells = ap (added a b 0) v.cells ∙ sym q;
           groups = map (lower x y) l;
           forest = o (w * h) l v.forest ba bb (first_cell w h s c n t f e u v x ua) (first_cell w h s c n t f e u v y ub);
-          grouped = grouped-joined w h (room w h s c n t f e u v) s l u v.grouped x y (joinable k i);
+          grouped = grouped_joined w h (room w h s c n t f e u v) s l u v.grouped x y (joinable k i);
           lists =
-              subst (λ g. Lists s g t₁ f e₁) (fun_ext (group-lower l x y))
-              (p s (group_of l) d d₂ (v.sided ∙ sym r.0) (omega (arith, r.2, ba, cells-slots w h))
-              (omega (arith, r.2, bb, cells-slots w h)) (side-long w h s c n t f e u v) i₁ i₂ v.lists);
+              subst (λ g. Lists s g t₁ f e₁) (fun_ext (group_lower l x y))
+              (p s (group_of l) d d₂ (v.sided ∙ sym r.0) (omega (arith, r.2, ba, cells_slots w h))
+              (omega (arith, r.2, bb, cells_slots w h)) (side_long w h s c n t f e u v) i₁ i₂ v.lists);
         }
 
-  pub standing-joined : (a b : ℕ) → Chosen c a b → adjoin w h u.side1 a b ≡ true
+  pub standing_joined : (a b : ℕ) → Chosen c a b → adjoin w h u.side1 a b ≡ true
       → (c₁ n₁ t₁ e₁ : List ℕ) → length c₁ ≡ length c → length n₁ ≡ length n → length t₁ ≡ length t → length e₁ ≡ length e
       → c₁ ≡ added a b 0 c
       → ((m : ℕ) (l : List ℕ) → Forest m l n → a ≤ m → b ≤ m → get_or l (a - 1) 0 ≡ a - 1 → get_or l (b - 1) 0 ≡ b - 1
@@ -155,13 +155,13 @@ module _ (w h : ℕ) (s c n t f e : List ℕ) (u : Tables) (v : Standing w h s c
       → ((s : List ℕ) (g : ℕ → ℕ) (d k : ℕ) → length s ≡ length t → a < length e → b < length e → length s ≤ mark
       → Of s g a d → Of s g b k → Lists s g t f e → Lists s (λ v. lower a b (g v)) t₁ f e₁)
       → Standing w h s c₁ n₁ t₁ f e₁ (joined w h u a b)
-  standing-joined zero b k = absurd (k.inner.0 refl)
-  standing-joined (suc x) zero k = absurd (k.inner.1 refl)
-  standing-joined (suc x) (suc y) k = λ i c₁ n₁ t₁ e₁ lc ln lt le q o.
+  standing_joined zero b k = absurd (k.inner.0 refl)
+  standing_joined (suc x) zero k = absurd (k.inner.1 refl)
+  standing_joined (suc x) (suc y) k = λ i c₁ n₁ t₁ e₁ lc ln lt le q o.
       let p : suc x - 1 ≡ x = omega arith in
       let r : suc y - 1 ≡ y = omega arith in
-      standing-suc x y k i c₁ n₁ t₁ e₁ lc ln lt le q (rw (p, r) at o)
+      standing_suc x y k i c₁ n₁ t₁ e₁ lc ln lt le q (rw (p, r) at o)
 
-pub lists-swap : (s : List ℕ) (g : ℕ → ℕ) (a b : ℕ) (t f e : List ℕ) → Lists s (λ v. lower b a (g v)) t f e
+pub lists_swap : (s : List ℕ) (g : ℕ → ℕ) (a b : ℕ) (t f e : List ℕ) → Lists s (λ v. lower b a (g v)) t f e
     → Lists s (λ v. lower a b (g v)) t f e
-lists-swap s g a b t f e = subst (λ k. Lists s k t f e) (fun_ext (λ v. lower-comm b a (g v)))
+lists_swap s g a b t f e = subst (λ k. Lists s k t f e) (fun_ext (λ v. lower_comm b a (g v)))

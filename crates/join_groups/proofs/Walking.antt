@@ -17,12 +17,12 @@ use Rattle.point_darts.specs.Dart.{mark, reversal}
 use Rattle.paper.specs.Joining.{at, on}
 use Rattle.table_forest.specs.Forest.{Forest, Grown}
 use Rattle.region_darts.specs.Lists.{along}
-use Rattle.region_darts.proofs.Along.{along-next, along-add, along-mark}
+use Rattle.region_darts.proofs.Along.{along_next_lem, along_add, along_mark}
 use Rattle.join_groups.specs.Group.{group_of, faced, Met, Unmet, Walkable}
 
 -- past the mark is the mark
-along-past : (t : List ℕ) → length t ≤ mark → (k d i : ℕ) → along t k d ≡ mark → along t (k + i) d ≡ mark
-along-past t b k d i e = along-add t k i d ∙ ap (along t i) e ∙ along-mark t b i
+along_past : (t : List ℕ) → length t ≤ mark → (k d i : ℕ) → along t k d ≡ mark → along t (k + i) d ≡ mark
+along_past t b k d i e = along_add t k i d ∙ ap (along t i) e ∙ along_mark t b i
 
 pub record Walking (w : ℕ) (s t : List ℕ) (f y : ℕ) (n₀ n : List ℕ) (d left : ℕ) : Type 0 where
   pub kept : (l : List ℕ) → Forest (length n₀) l n₀ → Forest (length n₀) l n
@@ -32,9 +32,9 @@ pub record Walking (w : ℕ) (s t : List ℕ) (f y : ℕ) (n₀ n : List ℕ) (d
   pub none : (l : List ℕ) → Forest (length n₀) l n₀ → Unmet w s l t f y (length t - left)
 
 module _ (w : ℕ) (s t : List ℕ) (f y : ℕ) (n₀ : List ℕ) where
-  pub walking-none : Walking w s t f y n₀ n₀ f (length t)
+  pub walking_none : Walking w s t f y n₀ n₀ f (length t)
   unfolding along
-  walking-none =
+  walking_none =
       let z : length t - length t ≡ 0 = omega arith in
       record {
         kept = λ l g. g;
@@ -45,18 +45,18 @@ module _ (w : ℕ) (s t : List ℕ) (f y : ℕ) (n₀ : List ℕ) where
       }
 
   module _ (n : List ℕ) (d left : ℕ) (v : Walking w s t f y n₀ n d left) where
-    abbrev pub grown-on : Grown (length n₀) n₀ → Grown (length n) n
-    grown-on g = record { labels = g.labels; forest = rw v.long (v.kept g.labels g.forest) }
+    abbrev pub grown_on : Grown (length n₀) n₀ → Grown (length n) n
+    grown_on g = record { labels = g.labels; forest = rw v.long (v.kept g.labels g.forest) }
 
     -- the list has ended
-    pub walked-out : length t ≤ mark → d ≡ mark → (l : List ℕ) → Forest (length n₀) l n₀ → Unmet w s l t f y (length t)
-    walked-out b e l g k c h = go (dec_lt k (length t - left))
+    pub walked_out : length t ≤ mark → d ≡ mark → (l : List ℕ) → Forest (length n₀) l n₀ → Unmet w s l t f y (length t)
+    walked_out b e l g k c h = go (dec_lt k (length t - left))
       where
         go : Dec (k < length t - left) → faced w s l (along t k f) ≢ y
         go (yes p) = v.none l g k p h
         go (no p) =
             let z : length t - left + (k - (length t - left)) ≡ k = omega arith in
-            absurd (h (rw z at (along-past t b (length t - left) f (k - (length t - left)) (sym v.here ∙ e))))
+            absurd (h (rw z at (along_past t b (length t - left) f (k - (length t - left)) (sym v.here ∙ e))))
 
     -- every dart has been seen
     pub walked_through : left ≤ 0 → (l : List ℕ) → Forest (length n₀) l n₀ → Unmet w s l t f y (length t)
@@ -64,11 +64,11 @@ module _ (w : ℕ) (s t : List ℕ) (f y : ℕ) (n₀ : List ℕ) where
 
     -- a dart that has a side on both hands
     module _ (m : d ≢ mark) (b : Walkable w s t f (length n₀)) where
-      pub dart-sided : (on s d ≡ true) × (at s (reversal w d) ≤ length n₀)
-      dart-sided = rw v.here (b (length t - left) (λ e. m (v.here ∙ e)))
+      pub dart_sided : (on s d ≡ true) × (at s (reversal w d) ≤ length n₀)
+      dart_sided = rw v.here (b (length t - left) (λ e. m (v.here ∙ e)))
 
       pub name_below : (a : ℕ) → a ≡ at s (reversal w d) → a ≤ length n
-      name_below a e = rw (e, v.long) dart-sided.1
+      name_below a e = rw (e, v.long) dart_sided.1
 
       module _ (z : 0 < left) (n₁ : List ℕ) (long : length n₁ ≡ length n)
           (a r : ℕ) (i : a ≡ at s (reversal w d))
@@ -76,10 +76,10 @@ module _ (w : ℕ) (s t : List ℕ) (f y : ℕ) (n₀ : List ℕ) where
         found : (l : List ℕ) → Forest (length n₀) l n₀ → Forest (length n₀) l n₁ × (r ≡ group_of l (at s (reversal w d)))
         found l g = rw (← v.long, ← i) (q l (rw v.long (v.kept l g)))
 
-        pub walked-met : r ≡ y → (l : List ℕ) → Forest (length n₀) l n₀
+        pub walked_met : r ≡ y → (l : List ℕ) → Forest (length n₀) l n₀
             → Forest (length n₀) l n₁ × Met w s l t f y
         unfolding faced
-        walked-met e l g =
+        walked_met e l g =
             let k = found l g in (
               k.0,
               record {
@@ -96,7 +96,7 @@ module _ (w : ℕ) (s t : List ℕ) (f y : ℕ) (n₀ : List ℕ) where
             record {
               kept = λ l g. (found l g).0;
               long = long ∙ v.long;
-              here = rw u (ap (at t) v.here ∙ sym (along-next t (length t - left) f));
+              here = rw u (ap (at t) v.here ∙ sym (along_next_lem t (length t - left) f));
               early = omega (arith, v.early);
               none = λ l g k b h. go l g k (omega (arith, u, b)) h (dec_lt k (length t - left));
             }

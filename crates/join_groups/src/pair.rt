@@ -1,10 +1,10 @@
 ghost use Rattle.std.specs.Prelude.{◌≡◌, List, map, ◌≢◌, ℕ, ◌+◌, ◌-◌, ◌≤◌, ◌<◌, length, get_or};
-ghost use Rattle.laws.specs.First.{firstFailed};
+ghost use Rattle.laws.specs.First.{first_failed};
 ghost use Rattle.laws.specs.Least.{lower};
 ghost use Rattle.point_darts.specs.Dart.{mark};
 ghost use Rattle.paper.specs.Drawing.{Tables};
 ghost use Rattle.paper.specs.Joining.{at, added, joined};
-ghost use Rattle.paper.specs.Refusal.{pairTests};
+ghost use Rattle.paper.specs.Refusal.{pair_tests};
 ghost use Rattle.answer.specs.Answer.{number_of};
 ghost use Rattle.table_forest.specs.Forest.{Forest};
 ghost use Rattle.region_darts.specs.Lists.{Of, Lists};
@@ -75,7 +75,7 @@ pub fn join_pair(
         Standing width h side.now cells.old groups.old list.old first.now
         last.old
         u →
-        (number_of result ≡ firstFailed (pairTests width h u.side1 u.parent a b)) ×
+        (number_of result ≡ first_failed (pair_tests width h u.side1 u.parent a b)) ×
         (number_of result ≡ 0 →
         Standing width h side.now cells.new groups.new list.new first.now
         last.new

@@ -1,9 +1,9 @@
 // Whether two groups share a line: through the darts of one of them.
 ghost use Rattle.std.specs.Prelude.{◌≡◌, true, false, List, ℕ, ◌+◌, ◌*◌, ◌≤◌, length};
-ghost use Rattle.laws.specs.First.{firstFailed};
+ghost use Rattle.laws.specs.First.{first_failed};
 ghost use Rattle.point_darts.specs.Dart.{mark};
 ghost use Rattle.paper.specs.Drawing.{Tables};
-ghost use Rattle.paper.specs.Refusal.{nameTests, adjoin};
+ghost use Rattle.paper.specs.Refusal.{name_tests, adjoin};
 ghost use Rattle.table_forest.specs.Forest.{Forest, Grown};
 ghost use Rattle.join_groups.specs.Group.{group_of, Met, Unmet, Walkable, Standing};
 
@@ -61,7 +61,7 @@ pub fn share(
     list: &[u16],
     first: &[u16],
 ) -> bool
-    requires { (firstFailed (nameTests cells.now a b) ≡ 0) ×
+    requires { (first_failed (name_tests cells.now a b) ≡ 0) ×
         ((h : ℕ) × (e : List ℕ) × (u : Tables) ×
         Standing width h side.now cells.now groups.old list.now first.now e u) }
     ensures { (h : ℕ) (e : List ℕ) (u : Tables) →

@@ -3,16 +3,16 @@
 use mathlib.Core.Path.{◌≡◌, refl, sym, ◌∙◌}
 use mathlib.Core.List.{List}
 use Prim.Native.Nat.{ℕ}
-use Rattle.laws.specs.First.{firstFailed}
+use Rattle.laws.specs.First.{first_failed}
 use Rattle.paper.specs.Drawing.{Tables}
-use Rattle.paper.specs.Refusal.{pairTests}
-use Rattle.paper_laws.proofs.Marks.{within-fits}
-use Rattle.paper_laws.proofs.InUse.{pair-cells}
-use Rattle.paper_laws.proofs.Order.{passed-joinable}
+use Rattle.paper.specs.Refusal.{pair_tests}
+use Rattle.paper_laws.proofs.Marks.{within_fits}
+use Rattle.paper_laws.proofs.InUse.{pair_cells}
+use Rattle.paper_laws.proofs.Order.{passed_joinable}
 use Rattle.answer.specs.declared.Answer.{Answer}
 use Rattle.answer.specs.Answer.{number_of}
 use Rattle.join_rule.specs.Apply.{Ready}
-use Rattle.join_rule.proofs.Readiness.{drawn-ready}
+use Rattle.join_rule.proofs.Readiness.{drawn_ready}
 use Rattle.join_answer.specs.Asked.{asked}
 use Rattle.join_list.specs.Each.{Open}
 
@@ -22,9 +22,9 @@ done_none = refl
 
 module _ (w h : ℕ) (t : Tables) (ws : List (List ℕ)) (o : Open w h t ws) (a b : ℕ) (r : Answer)
     (e : number_of r ≡ asked Answer.Done w h t.side1 t.cells a b) where
-  pub pair-number : number_of r ≡ firstFailed (pairTests w h t.side1 t.parent a b)
+  pub pair_number : number_of r ≡ first_failed (pair_tests w h t.side1 t.parent a b)
   unfolding asked number_of
-  pair-number = e ∙ pair-cells w h (within-fits w h o.size) t o.drawn a b
+  pair_number = e ∙ pair_cells w h (within_fits w h o.size) t o.drawn a b
 
-  pub pair-ready : number_of r ≡ 0 → Ready w h t ws a b
-  pair-ready z = drawn-ready w h t ws a b o.size o.sizes o.drawn (passed-joinable w h t a b (sym pair-number ∙ z))
+  pub pair_ready : number_of r ≡ 0 → Ready w h t ws a b
+  pair_ready z = drawn_ready w h t ws a b o.size o.sizes o.drawn (passed_joinable w h t a b (sym pair_number ∙ z))

@@ -10,7 +10,7 @@ use Rattle.paper.specs.Refusal.{stated}
 use Rattle.paper.specs.Order.{Stop, placed}
 use Rattle.join_rule.specs.Apply.{Topped}
 use Rattle.join_list.specs.declared.each.Listed.{Listed}
-use Rattle.join_list.specs.Answer.{listNumber, listValues}
+use Rattle.join_list.specs.Answer.{list_number, list_values}
 
 pub record Open (w h : ℕ) (t : Tables) (ws : List (List ℕ)) : Type 0 where
   pub size : within w h ≡ true
@@ -22,6 +22,6 @@ pub record Left (w h i : ℕ) (t : Tables) (b l : List ℕ) (u : Tables) (c m : 
   pub some : i ≢ 0 → Topped w h u.side1 c
 
 pub record Ended (r : Listed) (s : Stop) (t : Tables) : Type 0 where
-  pub number : listNumber r ≡ s.number
-  pub values : listValues r ≡ placed s.number s.place
+  pub number : list_number r ≡ s.number
+  pub values : list_values r ≡ placed s.number s.place
   pub tables : t ≡ s.tables

@@ -9,7 +9,7 @@ ghost use Rattle.paper.specs.Order.{pairs, whole, joins, placed, stop};
 ghost use Rattle.table_lengths.specs.Given.{tables, works};
 ghost use Rattle.answer.specs.Answer.{number_of};
 ghost use Rattle.join_rule.specs.Apply.{pair, found, Topped};
-ghost use Rattle.join_list.specs.Answer.{listNumber, listValues};
+ghost use Rattle.join_list.specs.Answer.{list_number, list_values};
 ghost use Rattle.join_list.specs.Each.{Open, Left, Ended};
 
 use crate::pair;
@@ -82,7 +82,7 @@ fn join_each(
 
 // What a list answers that ends so.
 fn told(answer: Answer, place: u16) -> Listed
-    ensures { (listNumber result ≡ number_of answer) × (listValues result ≡ placed (number_of answer) place) }
+    ensures { (list_number result ≡ number_of answer) × (list_values result ≡ placed (number_of answer) place) }
 {
     if answer.number() == 0 {
         return Listed::Done;

@@ -1,7 +1,7 @@
 ghost use Rattle.std.specs.Prelude.{◌≡◌, ◌≢◌};
-ghost use Rattle.laws.specs.First.{firstFailed};
+ghost use Rattle.laws.specs.First.{first_failed};
 ghost use Rattle.paper.specs.Joining.{joined};
-ghost use Rattle.paper.specs.Refusal.{pairTests};
+ghost use Rattle.paper.specs.Refusal.{pair_tests};
 ghost use Rattle.answer.specs.Answer.{number_of};
 ghost use Rattle.join_rule.specs.Apply.{pair, found, Topped};
 ghost use Rattle.join_list.specs.Each.{Open};
@@ -30,8 +30,8 @@ pub fn join_pair(
         (found width height next1.old side1.old next3.old other3.old cells.old borders.old)
         (pair back.old list.old) }
     ensures { (number_of result ≡
-        firstFailed
-        (pairTests width height side1.old
+        first_failed
+        (pair_tests width height side1.old
         (found width height next1.old side1.old next3.old other3.old
         cells.old borders.old).parent
         a

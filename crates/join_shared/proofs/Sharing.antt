@@ -8,34 +8,34 @@ use mathlib.Core.Logic.{◌≢◌}
 use Prim.Native.Nat.{ℕ, ◌≤◌}
 use lib.Dec.{eqb}
 use lib.ListN.{length}
-use Rattle.laws.proofs.Test.{or-neither}
+use Rattle.laws.proofs.Test.{or_neither}
 use Rattle.point_darts.specs.Dart.{mark}
 use Rattle.paper.specs.Joining.{at, between, shared}
 use Rattle.table_entries.proofs.Entries.{at_out}
 use Rattle.join_darts.specs.Listed.{bounds}
-use Rattle.join_shared.proofs.Sides.{shared-neither}
+use Rattle.join_shared.proofs.Sides.{shared_neither}
 
 -- past the end no dart has the sides a and b
-pub shared-past : (s : List ℕ) (o : ℕ → ℕ) (a b : ℕ) → a ≢ mark → b ≢ mark → (d : ℕ) → length s ≤ d
+pub shared_past : (s : List ℕ) (o : ℕ → ℕ) (a b : ℕ) → a ≢ mark → b ≢ mark → (d : ℕ) → length s ≤ d
     → shared s o a b d ≡ false
-shared-past s o a b p q d h =
+shared_past s o a b p q d h =
     let e = at_out s d h in
-    sym (shared-neither s o a b d mark e (λ r. p (sym r)) (λ r. q (sym r)))
+    sym (shared_neither s o a b d mark e (λ r. p (sym r)) (λ r. q (sym r)))
 
 -- nor has a dart with neither of them
-pub away-apart : (s : List ℕ) (o : ℕ → ℕ) (a b d : ℕ) → bounds s a b d ≡ false → shared s o a b d ≡ false
+pub away_apart : (s : List ℕ) (o : ℕ → ℕ) (a b d : ℕ) → bounds s a b d ≡ false → shared s o a b d ≡ false
 unfolding bounds shared between
-away-apart s o a b d e =
-    let (p, q) = or-neither (eqb (at s d) a) (eqb (at s d) b) e in
+away_apart s o a b d e =
+    let (p, q) = or_neither (eqb (at s d) a) (eqb (at s d) b) e in
     rw (p, q)
 
 -- the other has the same sides
-between-swap : (a b x y : ℕ) → between a b x y ≡ between a b y x
+between_swap : (a b x y : ℕ) → between a b x y ≡ between a b y x
 unfolding between
-between-swap a b x y =
+between_swap a b x y =
     or_comm (eqb x a && eqb y b) (eqb x b && eqb y a)
     ∙ ap₂ ◌||◌ (and_comm (eqb x b) (eqb y a)) (and_comm (eqb x a) (eqb y b))
 
-pub shared-other : (s : List ℕ) (o : ℕ → ℕ) (a b d : ℕ) → o (o d) ≡ d → shared s o a b (o d) ≡ shared s o a b d
+pub shared_other : (s : List ℕ) (o : ℕ → ℕ) (a b d : ℕ) → o (o d) ≡ d → shared s o a b (o d) ≡ shared s o a b d
 unfolding shared
-shared-other s o a b d e = rw e (between-swap a b (at s (o d)) (at s d))
+shared_other s o a b d e = rw e (between_swap a b (at s (o d)) (at s d))

@@ -17,9 +17,9 @@ or_off true = refl
 or_off false = refl
 
 module _ (s : List ℕ) (o : ℕ → ℕ) (a b d x : ℕ) (e : x ≡ at s d) where
-  pub shared-first : x ≡ a → eqb (at s (o d)) b ≡ shared s o a b d
+  pub shared_first : x ≡ a → eqb (at s (o d)) b ≡ shared s o a b d
   unfolding shared between
-  shared-first p = rw (← e, p, eq-eqb a a refl) (go (eqb a b) refl)
+  shared_first p = rw (← e, p, eq-eqb a a refl) (go (eqb a b) refl)
     where
       go : (c : Bool) → eqb a b ≡ c → eqb (at s (o d)) b ≡ (eqb (at s (o d)) b || c && eqb (at s (o d)) a)
       go true q = rw (eqb-true a b q) (sym (or_same (eqb (at s (o d)) b)))
@@ -29,6 +29,6 @@ module _ (s : List ℕ) (o : ℕ → ℕ) (a b d x : ℕ) (e : x ≡ at s d) whe
   unfolding shared between
   shared_second n p = rw (← e, ne_eqb x a n, eq-eqb x b p)
 
-  pub shared-neither : (x ≡ a → ⊥) → (x ≡ b → ⊥) → false ≡ shared s o a b d
+  pub shared_neither : (x ≡ a → ⊥) → (x ≡ b → ⊥) → false ≡ shared s o a b d
   unfolding shared between
-  shared-neither n m = rw (← e, ne_eqb x a n, ne_eqb x b m)
+  shared_neither n m = rw (← e, ne_eqb x a n, ne_eqb x b m)

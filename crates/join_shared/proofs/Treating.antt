@@ -11,7 +11,7 @@ use native.Mathlib.Omega.{arith}
 use lib.ListN.{length, get_or, set}
 use Rattle.laws.specs.Table.{table}
 use Rattle.paper.specs.Joining.{at}
-use Rattle.table_entries.proofs.Half.{Half, half-none, half-more, half-all, half-here}
+use Rattle.table_entries.proofs.Half.{Half, half_none, half_more, half_all, half_here}
 use Rattle.table_entries.proofs.Entries.{at_entry}
 use Rattle.join_darts.specs.Listed.{First, Listed}
 
@@ -22,8 +22,8 @@ pub record Treated (g : ℕ → ℕ) (q : ℕ → Bool) (d : ℕ) (s t : List �
 
 module _ (g : ℕ → ℕ) (q : ℕ → Bool) (s : List ℕ)
     (same : (d : ℕ) → d < length s → q d ≡ false → g d ≡ at s d) where
-  treated-on : (i j : ℕ) (t : List ℕ) → Half g i s t → First q (length s) i j → Treated g q j s t
-  treated-on i j t p r =
+  treated_on : (i j : ℕ) (t : List ℕ) → Half g i s t → First q (length s) i j → Treated g q j s t
+  treated_on i j t p r =
       record {
         half = record {
           done = λ k h. go k h (dec_lt k i);
@@ -42,17 +42,17 @@ module _ (g : ℕ → ℕ) (q : ℕ → Bool) (s : List ℕ)
           p.rest k c ∙ sym (at_entry s k l) ∙ sym (same k l (r.gap k c h))
 
   module _ (f : ℕ) (l : List ℕ) (r : Listed q (length s) f l) where
-    pub treated-none : Treated g q f s s
-    treated-none = treated-on 0 f s (half-none g s) r.start
+    pub treated_none : Treated g q f s s
+    treated_none = treated_on 0 f s (half_none g s) r.start
 
-    pub treated-more : (d v : ℕ) (t : List ℕ) → Treated g q d s t → d < length s → v ≡ g d
+    pub treated_more : (d v : ℕ) (t : List ℕ) → Treated g q d s t → d < length s → v ≡ g d
         → Treated g q (get_or l d 0) s (set t d v)
-    treated-more d v t p b e =
-        treated-on (d + 1) (get_or l d 0) (set t d v) (half-more g d v s t p.half b e) (r.steps d b (p.here b))
+    treated_more d v t p b e =
+        treated_on (d + 1) (get_or l d 0) (set t d v) (half_more g d v s t p.half b e) (r.steps d b (p.here b))
 
-  pub treated-all : (d : ℕ) (t : List ℕ) → Treated g q d s t → length s ≤ d → t ≡ table (length s) g
-  treated-all d t p h = half-all g (length s) d s t p.half refl h
+  pub treated_all : (d : ℕ) (t : List ℕ) → Treated g q d s t → length s ≤ d → t ≡ table (length s) g
+  treated_all d t p h = half_all g (length s) d s t p.half refl h
 
   -- an entry that is not yet treated
-  pub treated-here : (d : ℕ) (t : List ℕ) → Treated g q d s t → d < length s → at s d ≡ get_or t d 0
-  treated-here d t p h = half-here g d s t p.half h
+  pub treated_here : (d : ℕ) (t : List ℕ) → Treated g q d s t → d < length s → at s d ≡ get_or t d 0
+  treated_here d t p h = half_here g d s t p.half h

@@ -15,29 +15,29 @@ use Rattle.paper.specs.Joining.{Links, at, on, low, high, spliced, smooth, smoot
 use Rattle.join_darts.specs.Links.{links, splice}
 
 -- two tables, each with its equation
-pub links-path : (l : Links) (n o : List ℕ) → n ≡ l.next → o ≡ l.other → links n o ≡ l
-links-path l n o e f = λ i. record { next = e i; other = f i }
+pub links_path : (l : Links) (n o : List ℕ) → n ≡ l.next → o ≡ l.other → links n o ≡ l
+links_path l n o e f = λ i. record { next = e i; other = f i }
 
 -- the two stores into each table
-pub splice-nexts : (n o t : List ℕ) (u v x y a b : ℕ) → a ≡ at n v → b ≡ at n u → t ≡ set (set n x a) y b
+pub splice_nexts : (n o t : List ℕ) (u v x y a b : ℕ) → a ≡ at n v → b ≡ at n u → t ≡ set (set n x a) y b
     → set (set t u mark) v mark ≡ (spliced (links n o) u v x y).next
 unfolding spliced
-splice-nexts n o t u v x y a b e f g = rw (g, e, f)
+splice_nexts n o t u v x y a b e f g = rw (g, e, f)
 
-pub splice-others : (n o t : List ℕ) (u v x y : ℕ) → t ≡ set (set o x y) y x
+pub splice_others : (n o t : List ℕ) (u v x y : ℕ) → t ≡ set (set o x y) y x
     → set (set t u mark) v mark ≡ (spliced (links n o) u v x y).other
 unfolding spliced
-splice-others n o t u v x y g = rw g
+splice_others n o t u v x y g = rw g
 
 module _ (l : Links) (u v : ℕ) where
-  pub splice-loop : (x : ℕ) → x ≡ at l.other u → x ≡ v → l ≡ splice l u v
+  pub splice_loop : (x : ℕ) → x ≡ at l.other u → x ≡ v → l ≡ splice l u v
   unfolding splice
-  splice-loop x e f = rw (eq-eqb (at l.other u) v (sym e ∙ f), splice)
+  splice_loop x e f = rw (eq-eqb (at l.other u) v (sym e ∙ f), splice)
 
-  pub splice-edges : (x y : ℕ) → x ≡ at l.other u → (x ≡ v → ⊥) → y ≡ at l.other v
+  pub splice_edges : (x y : ℕ) → x ≡ at l.other u → (x ≡ v → ⊥) → y ≡ at l.other v
       → spliced l u v x y ≡ splice l u v
   unfolding splice
-  splice-edges x y e n f = rw (e, f, ne_eqb (at l.other u) v (λ q. n (e ∙ q)), splice)
+  splice_edges x y e n f = rw (e, f, ne_eqb (at l.other u) v (λ q. n (e ∙ q)), splice)
 
 -- a point with the lines m is treated by whether they are two
 module _ (l : Links) (p m : ℕ) (q : m ≡ mask (on l.next) p) (c : Bool) (s : c ≡ eqb (degree m) 2) where
@@ -47,13 +47,13 @@ module _ (l : Links) (p m : ℕ) (q : m ≡ mask (on l.next) p) (c : Bool) (s : 
   counted : c ≡ eqb (degree lines) 2
   counted = s ∙ ap (λ i. eqb (degree i) 2) q
 
-  pub smooth-other : c ≡ false → l ≡ smooth l p
+  pub smooth_other : c ≡ false → l ≡ smooth l p
   unfolding smooth
-  smooth-other n = rw (sym counted ∙ n, smooth)
+  smooth_other n = rw (sym counted ∙ n, smooth)
 
-  pub smooth-two : c ≡ true → (u v : ℕ) → u ≡ dart p (low m) → v ≡ dart p (high m) → splice l u v ≡ smooth l p
+  pub smooth_two : c ≡ true → (u v : ℕ) → u ≡ dart p (low m) → v ≡ dart p (high m) → splice l u v ≡ smooth l p
   unfolding smooth
-  smooth-two e u v f g = rw (f, g, q) (go (eqb x y) refl)
+  smooth_two e u v f g = rw (f, g, q) (go (eqb x y) refl)
     where
       x : ℕ
       x = at l.other (dart p (low lines))
@@ -65,15 +65,15 @@ module _ (l : Links) (p m : ℕ) (q : m ≡ mask (on l.next) p) (c : Bool) (s : 
       two = sym counted ∙ e
 
       go : (b : Bool) → eqb x y ≡ b → splice l (dart p (low lines)) y ≡ smooth l p
-      go true r = sym (splice-loop l (dart p (low lines)) y x refl (eqb-true x y r)) ∙ rw (two, r, smooth)
+      go true r = sym (splice_loop l (dart p (low lines)) y x refl (eqb-true x y r)) ∙ rw (two, r, smooth)
       go false r =
-          sym (splice-edges l (dart p (low lines)) y x (at l.other y) refl (eqb-false x y r) refl)
+          sym (splice_edges l (dart p (low lines)) y x (at l.other y) refl (eqb-false x y r) refl)
           ∙ rw (two, r, smooth)
 
-pub smooths-none : (p : ℕ) (l : Links) → smooths zero p l ≡ l
+pub smooths_none : (p : ℕ) (l : Links) → smooths zero p l ≡ l
 unfolding smooths
-smooths-none p l = refl
+smooths_none p l = refl
 
-pub smooths-more : (n p : ℕ) (l : Links) → smooths (suc n) p l ≡ smooths n (suc p) (smooth l p)
+pub smooths_more : (n p : ℕ) (l : Links) → smooths (suc n) p l ≡ smooths n (suc p) (smooth l p)
 unfolding smooths
-smooths-more n p l = refl
+smooths_more n p l = refl

@@ -9,9 +9,9 @@ use Rattle.point_darts.specs.Dart.{mark}
 use Rattle.paper.specs.Joining.{at, added}
 
 module _ (a b k : ℕ) (t : List ℕ) where
-  pub added-less : a < b → set (set t a (at t a + at t b - k)) b mark ≡ added a b k t
+  pub added_less : a < b → set (set t a (at t a + at t b - k)) b mark ≡ added a b k t
   unfolding added
-  added-less l = let p : min a b ≡ a = omega arith in let q : max a b ≡ b = omega arith in rw (p, q)
+  added_less l = let p : min a b ≡ a = omega arith in let q : max a b ≡ b = omega arith in rw (p, q)
 
   pub added_more : b ≤ a → set (set t b (at t a + at t b - k)) a mark ≡ added a b k t
   unfolding added

@@ -18,11 +18,11 @@ failed same i (c ∷ cs) =
 
 -- Where the test tells equal things alone, and no case fails, each case computes what it states.
 module _ {A : Type 0} (same : A → A → Bool) (right : (x y : A) → same x y ≡ true → x ≡ y) where
-  pub none-failed : (i : ℕ) (cs : List (Case A)) → failed same i cs ≡ []
+  pub none_failed : (i : ℕ) (cs : List (Case A)) → failed same i cs ≡ []
       → map (λ (c : Case A). c.computed) cs ≡ map (λ (c : Case A). c.stated) cs
   unfolding failed
-  none-failed i [] e = refl
-  none-failed i (c ∷ cs) e = by (same c.computed c.stated) refl e (none-failed (suc i) cs)
+  none_failed i [] e = refl
+  none_failed i (c ∷ cs) e = by (same c.computed c.stated) refl e (none_failed (suc i) cs)
     where
       by : (t : Bool) → same c.computed c.stated ≡ t
           → ◌≡◌ {A = List ℕ} (elim t [ true ↦ failed same (suc i) cs | false ↦ i ∷ failed same (suc i) cs ]) []

@@ -29,8 +29,8 @@ pub record Turns (n : ℕ) (on : ℕ → Bool) (f : ℕ → ℕ) : Type 0 where
 
 pub record Chart (m : Map) : Type 0 where
   pub turns : Turns m.n m.on m.nx
-  pub rev-on : (d : ℕ) → m.on d ≡ true → m.on (m.rev d) ≡ true
-  pub rev-rev : (d : ℕ) → m.on d ≡ true → m.rev (m.rev d) ≡ d
+  pub rev_on : (d : ℕ) → m.on d ≡ true → m.on (m.rev d) ≡ true
+  pub rev_rev : (d : ℕ) → m.on d ≡ true → m.rev (m.rev d) ≡ d
   pub leaves : (d : ℕ) → m.on d ≡ true → m.pt (m.nx d) ≡ m.pt (m.rev d)
   pub keeps : (d : ℕ) → m.on d ≡ true → m.side (m.nx d) ≡ m.side d
   pub parts : (d : ℕ) → m.on d ≡ true → m.side (m.rev d) ≡ m.side d → ⊥

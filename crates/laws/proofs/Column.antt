@@ -21,14 +21,14 @@ module _ (w : ℕ) (pos : 0 < w) (i x : ℕ) (e : x ≡ i % w) where
       let p : i + 1 ≡ i / w * w + (x + 1) = omega (arith, div-add-mod' i w) in
       ap (λ k. k / w) p ∙ mul-add-div_right pos (i / w) (x + 1)
 
-  next-column : (i + 1) % w ≡ (x + 1) % w
-  next-column = rw e (sym (mod-add-mod i w 1))
+  next_column : (i + 1) % w ≡ (x + 1) % w
+  next_column = rw e (sym (mod-add-mod i w 1))
 
   -- in the row
-  pub column-on : x + 1 ≢ w → x + 1 ≡ (i + 1) % w
-  column-on n =
+  pub column_on : x + 1 ≢ w → x + 1 ≡ (i + 1) % w
+  column_on n =
       let h : x + 1 < w = omega (arith, mod-lt i pos) in
-      sym (next-column ∙ mod-eq_of_lt h)
+      sym (next_column ∙ mod-eq_of_lt h)
 
   pub row_on : x + 1 ≢ w → i / w ≡ (i + 1) / w
   row_on n =
@@ -36,8 +36,8 @@ module _ (w : ℕ) (pos : 0 < w) (i x : ℕ) (e : x ≡ i % w) where
       omega (arith, next_row, div-eq_of_lt h)
 
   -- at its end
-  pub column-back : x + 1 ≡ w → 0 ≡ (i + 1) % w
-  column-back p = sym (next-column ∙ ap (λ k. k % w) p ∙ mod_self w)
+  pub column_back : x + 1 ≡ w → 0 ≡ (i + 1) % w
+  column_back p = sym (next_column ∙ ap (λ k. k % w) p ∙ mod_self w)
 
-  pub row-down : x + 1 ≡ w → i / w + 1 ≡ (i + 1) / w
-  row-down p = omega (arith, next_row, ap (λ k. k / w) p, div_self pos)
+  pub row_down : x + 1 ≡ w → i / w + 1 ≡ (i + 1) / w
+  row_down p = omega (arith, next_row, ap (λ k. k / w) p, div_self pos)

@@ -7,20 +7,20 @@ use Prim.Native.Nat.{ℕ}
 use lib.Dec.{eqb}
 use borrow.Author.Tests.{eq-eqb, eqb-true}
 use Rattle.laws.specs.Equal.{equal}
-use Rattle.laws.proofs.Test.{and-true, and_left, and_right}
+use Rattle.laws.proofs.Test.{and_true, and_left, and_right}
 
-pub equal-true : (xs ys : List ℕ) → equal xs ys ≡ true → xs ≡ ys
+pub equal_true : (xs ys : List ℕ) → equal xs ys ≡ true → xs ≡ ys
 unfolding equal
-equal-true [] [] e = refl
-equal-true [] (y ∷ ys) e = absurd (false≢true e)
-equal-true (x ∷ xs) [] e = absurd (false≢true e)
-equal-true (x ∷ xs) (y ∷ ys) e =
-    ap₂ ◌∷◌ (eqb-true x y (and_left (eqb x y) (equal xs ys) e)) (equal-true xs ys (and_right (eqb x y) (equal xs ys) e))
+equal_true [] [] e = refl
+equal_true [] (y ∷ ys) e = absurd (false≢true e)
+equal_true (x ∷ xs) [] e = absurd (false≢true e)
+equal_true (x ∷ xs) (y ∷ ys) e =
+    ap₂ ◌∷◌ (eqb-true x y (and_left (eqb x y) (equal xs ys) e)) (equal_true xs ys (and_right (eqb x y) (equal xs ys) e))
 
-pub equal-own : (xs : List ℕ) → equal xs xs ≡ true
+pub equal_own : (xs : List ℕ) → equal xs xs ≡ true
 unfolding equal
-equal-own [] = refl
-equal-own (x ∷ xs) = and-true (eq-eqb x x refl) (equal-own xs)
+equal_own [] = refl
+equal_own (x ∷ xs) = and_true (eq-eqb x x refl) (equal_own xs)
 
-pub equal-iff : (xs ys : List ℕ) → (equal xs ys ≡ true) ↔ (xs ≡ ys)
-equal-iff xs ys = (equal-true xs ys, λ e. rw (← e) (equal-own xs))
+pub equal_iff : (xs ys : List ℕ) → (equal xs ys ≡ true) ↔ (xs ≡ ys)
+equal_iff xs ys = (equal_true xs ys, λ e. rw (← e) (equal_own xs))

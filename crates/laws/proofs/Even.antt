@@ -1,5 +1,5 @@
 -- Sets of lines of a grid that have an even number of lines at each place. Cells stand in columns and rows, and a cell has a
--- place at its south-east corner.
+-- place at its south_east corner.
 --   v x y           == the line that runs north from the place in column x and row y is of the set
 --   l x y           == the line that runs west from it is of the set
 --   odd a b         == exactly one of a and b
@@ -16,50 +16,50 @@ abbrev pub odd : Bool → Bool → Bool
 odd true b = not b
 odd false b = b
 
-pub odd-false : (b : Bool) → odd b false ≡ b
-odd-false true = refl
-odd-false false = refl
+pub odd_false : (b : Bool) → odd b false ≡ b
+odd_false true = refl
+odd_false false = refl
 
-pub odd-comm : (a b : Bool) → odd a b ≡ odd b a
-odd-comm true true = refl
-odd-comm true false = refl
-odd-comm false true = refl
-odd-comm false false = refl
+pub odd_comm : (a b : Bool) → odd a b ≡ odd b a
+odd_comm true true = refl
+odd_comm true false = refl
+odd_comm false true = refl
+odd_comm false false = refl
 
-odd-assoc : (a b c : Bool) → odd (odd a b) c ≡ odd a (odd b c)
-odd-assoc true true c = sym (not-not c)
-odd-assoc true false c = refl
-odd-assoc false b c = refl
+odd_assoc : (a b c : Bool) → odd (odd a b) c ≡ odd a (odd b c)
+odd_assoc true true c = sym (not-not c)
+odd_assoc true false c = refl
+odd_assoc false b c = refl
 
 -- twice is none
-pub odd-twice : (a b : Bool) → odd a (odd a b) ≡ b
-odd-twice true b = not-not b
-odd-twice false b = refl
+pub odd_twice : (a b : Bool) → odd a (odd a b) ≡ b
+odd_twice true b = not-not b
+odd_twice false b = refl
 
 -- what is changed alike from equals is equal
-pub odd-once : (a b c : Bool) → odd a b ≡ odd a c → b ≡ c
-odd-once a b c e = sym (odd-twice a b) ∙ rw e (odd-twice a c)
+pub odd_once : (a b c : Bool) → odd a b ≡ odd a c → b ≡ c
+odd_once a b c e = sym (odd_twice a b) ∙ rw e (odd_twice a c)
 
-odd-undo : (a b : Bool) → odd (odd a b) b ≡ a
-odd-undo a b = odd-comm (odd a b) b ∙ ap (odd b) (odd-comm a b) ∙ odd-twice b a
+odd_undo : (a b : Bool) → odd (odd a b) b ≡ a
+odd_undo a b = odd_comm (odd a b) b ∙ ap (odd b) (odd_comm a b) ∙ odd_twice b a
 
 -- of two pairs that change alike, the ends change as the starts do
-pub odd-cross : (a b c d : Bool) → odd a b ≡ odd c d → odd b d ≡ odd a c
-odd-cross a b c d e =
-    ap (λ x. odd x d) (sym (odd-twice a b) ∙ ap (odd a) e) ∙ odd-assoc a (odd c d) d ∙ ap (odd a) (odd-undo c d)
+pub odd_cross : (a b c d : Bool) → odd a b ≡ odd c d → odd b d ≡ odd a c
+odd_cross a b c d e =
+    ap (λ x. odd x d) (sym (odd_twice a b) ∙ ap (odd a) e) ∙ odd_assoc a (odd c d) d ∙ ap (odd a) (odd_undo c d)
 
-odd-none : (a b : Bool) → odd a b ≡ false → a ≡ b
-odd-none a b e = sym (odd-twice b a) ∙ rw (odd-comm b a, e) (odd-false b)
+odd_none : (a b : Bool) → odd a b ≡ false → a ≡ b
+odd_none a b e = sym (odd_twice b a) ∙ rw (odd_comm b a, e) (odd_false b)
 
-odd-same : (a : Bool) → odd a a ≡ false
-odd-same true = refl
-odd-same false = refl
+odd_same : (a : Bool) → odd a a ≡ false
+odd_same true = refl
+odd_same false = refl
 
 -- four may be paired as one likes
-pub odd-pairs : (a b c d : Bool) → odd (odd (odd a b) (odd c d)) (odd (odd a c) (odd b d)) ≡ false
-odd-pairs a b c d =
-    let middle = sym (odd-assoc b c d) ∙ ap (λ x. odd x d) (odd-comm b c) ∙ odd-assoc c b d in
-    rw (odd-assoc a b (odd c d) ∙ ap (odd a) middle ∙ sym (odd-assoc a c (odd b d))) (odd-same (odd (odd a c) (odd b d)))
+pub odd_pairs : (a b c d : Bool) → odd (odd (odd a b) (odd c d)) (odd (odd a c) (odd b d)) ≡ false
+odd_pairs a b c d =
+    let middle = sym (odd_assoc b c d) ∙ ap (λ x. odd x d) (odd_comm b c) ∙ odd_assoc c b d in
+    rw (odd_assoc a b (odd c d) ∙ ap (odd a) middle ∙ sym (odd_assoc a c (odd b d))) (odd_same (odd (odd a c) (odd b d)))
 
 pub record Even (v l : ℕ → ℕ → Bool) : Type 0 where
   pub west : (y : ℕ) → l 0 y ≡ false
@@ -70,34 +70,34 @@ crossed v zero y = false
 crossed v (suc x) y = odd (crossed v x y) (v x y)
 
 module _ (v : ℕ → ℕ → Bool) where
-  pub crossed-west : (y : ℕ) → crossed v 0 y ≡ false
+  pub crossed_west : (y : ℕ) → crossed v 0 y ≡ false
   unfolding crossed
-  crossed-west y = refl
+  crossed_west y = refl
 
-  pub crossed-east : (x y : ℕ) → crossed v (suc x) y ≡ odd (crossed v x y) (v x y)
+  pub crossed_east : (x y : ℕ) → crossed v (suc x) y ≡ odd (crossed v x y) (v x y)
   unfolding crossed
-  crossed-east x y = refl
+  crossed_east x y = refl
 
   -- as far as no line is of the set, none is crossed
-  pub crossed-start : (x y : ℕ) → ((k : ℕ) → k < x → v k y ≡ false) → crossed v x y ≡ false
-  crossed-start zero y f = crossed-west y
-  crossed-start (suc x) y f =
-      crossed-east x y ∙ rw (crossed-start x y (λ k b. f k (omega arith)), f x (le_refl (suc x)))
+  pub crossed_start : (x y : ℕ) → ((k : ℕ) → k < x → v k y ≡ false) → crossed v x y ≡ false
+  crossed_start zero y f = crossed_west y
+  crossed_start (suc x) y f =
+      crossed_east x y ∙ rw (crossed_start x y (λ k b. f k (omega arith)), f x (le_refl (suc x)))
 
 -- round a place, on the one way and on the other
 around : (c a b d e : Bool) → odd (odd a b) (odd d e) ≡ false → odd (odd c d) b ≡ odd (odd c a) e
 around c a b d e q =
-    odd-assoc c d b
-    ∙ ap (odd c) (odd-comm d b ∙ sym (odd-cross b a d e (odd-comm b a ∙ odd-none (odd a b) (odd d e) q)))
-    ∙ sym (odd-assoc c a e)
+    odd_assoc c d b
+    ∙ ap (odd c) (odd_comm d b ∙ sym (odd_cross b a d e (odd_comm b a ∙ odd_none (odd a b) (odd d e) q)))
+    ∙ sym (odd_assoc c a e)
 
 -- one row down a line is crossed as one is from column to column
-pub crossed-down : {v l : ℕ → ℕ → Bool} → Even v l → (x y : ℕ) → crossed v x (suc y) ≡ odd (crossed v x y) (l x y)
-crossed-down {v} {l} g zero y = crossed-west v (suc y) ∙ rw (crossed-west v y, g.west y)
-crossed-down {v} {l} g (suc x) y =
-    crossed-east v x (suc y)
+pub crossed_down : {v l : ℕ → ℕ → Bool} → Even v l → (x y : ℕ) → crossed v x (suc y) ≡ odd (crossed v x y) (l x y)
+crossed_down {v} {l} g zero y = crossed_west v (suc y) ∙ rw (crossed_west v y, g.west y)
+crossed_down {v} {l} g (suc x) y =
+    crossed_east v x (suc y)
     ∙ rw (
-      crossed-down g x y,
-      crossed-east v x y,
+      crossed_down g x y,
+      crossed_east v x y,
       around (crossed v x y) (v x y) (v x (suc y)) (l x y) (l (suc x) y) (g.even x y),
     )

@@ -11,16 +11,16 @@ use Rattle.laws.specs.Every.{every}
 
 module _ (p : ℕ → Bool) (l : List ℕ) where
   -- an entry that fails: not every entry from there on passes
-  pub every-stop : (i : ℕ) → i < length l → p (get_or l i 0) ≡ false → every p (drop i l) ≡ false
+  pub every_stop : (i : ℕ) → i < length l → p (get_or l i 0) ≡ false → every p (drop i l) ≡ false
   unfolding every
-  every-stop i h e = rw (drop-cons l i 0, e)
+  every_stop i h e = rw (drop-cons l i 0, e)
 
   -- an entry that passes: the rest decides
-  pub every-go : (i : ℕ) → i < length l → p (get_or l i 0) ≡ true → every p (drop (i + 1) l) ≡ every p (drop i l)
+  pub every_go : (i : ℕ) → i < length l → p (get_or l i 0) ≡ true → every p (drop (i + 1) l) ≡ every p (drop i l)
   unfolding every
-  every-go i h e = rw (drop-cons l i 0, e, add-one)
+  every_go i h e = rw (drop-cons l i 0, e, add-one)
 
   -- no entry is left
-  pub every-end : (i : ℕ) → length l ≤ i → every p (drop i l) ≡ true
+  pub every_end : (i : ℕ) → length l ≤ i → every p (drop i l) ≡ true
   unfolding every
-  every-end i h = rw (drop_of_length-le l h)
+  every_end i h = rw (drop_of_length-le l h)

@@ -43,50 +43,50 @@ pub record Over (none : ℕ) (m : Map) (k : ℕ → Bool) (nt ot : ℕ → ℕ) 
   pub others : (d : ℕ) → ot d ≡ links none (level m k).on (level m k).rev d
 
 -- a pair of values put at x: what holds of these at x, and of what was there elsewhere, holds at every d
-pub put-cases : (P : ℕ → ℕ → Type 0) (f g : ℕ → ℕ) (x a b d : ℕ) → (d ≡ x → P a b) → (d ≢ x → P (f d) (g d))
+pub put_cases : (P : ℕ → ℕ → Type 0) (f g : ℕ → ℕ) (x a b d : ℕ) → (d ≡ x → P a b) → (d ≢ x → P (f d) (g d))
     → P (put f x a d) (put g x b d)
 unfolding put
-put-cases P f g x a b d h k = go (ℕ_discrete d x)
+put_cases P f g x a b d h k = go (ℕ_discrete d x)
   where
     go : Dec (d ≡ x) → P (put f x a d) (put g x b d)
     go (yes e) = rw (eq-eqb d x e) (h e)
     go (no e) = rw (ne_eqb d x e) (k e)
 
 module _ (k : ℕ → Bool) (p q : ℕ) where
-  pub without-off : k q ≡ false → without k p q ≡ false
+  pub without_off : k q ≡ false → without k p q ≡ false
   unfolding without
-  without-off h = rw h
+  without_off h = rw h
 
   pub without_at : q ≡ p → without k p q ≡ false
   unfolding without
   without_at e = rw (eq-eqb q p e) (and-false (k q))
 
-  pub without-else : q ≢ p → without k p q ≡ k q
+  pub without_else : q ≢ p → without k p q ≡ k q
   unfolding without
-  without-else e = rw (ne_eqb q p e) (and-true (k q))
+  without_else e = rw (ne_eqb q p e) (and-true (k q))
 
   pub with_at : q ≡ p → with k p q ≡ true
   unfolding with
   with_at e = rw (eq-eqb q p e) (or-true (k q))
 
-  pub with-kept : k q ≡ true → with k p q ≡ true
+  pub with_kept : k q ≡ true → with k p q ≡ true
   unfolding with
-  with-kept h = rw h
+  with_kept h = rw h
 
-  pub with-else : q ≢ p → with k p q ≡ k q
+  pub with_else : q ≢ p → with k p q ≡ k q
   unfolding with
-  with-else e = rw (ne_eqb q p e) (or-false (k q))
+  with_else e = rw (ne_eqb q p e) (or-false (k q))
 
 -- the entries of a dart, by its run in the level
 module _ (none : ℕ) (m : Map) (k : ℕ → Bool) (d : ℕ) where
-  pub entry-on : {l : ℕ} → m.on d ≡ true → k (m.pt d) ≡ true → last m k d ≡ l
+  pub entry_on : {l : ℕ} → m.on d ≡ true → k (m.pt d) ≡ true → last m k d ≡ l
       → Entry none m k d (m.nx l) (m.rev l)
   unfolding links level
-  entry-on h e q = record { nexts = rw (h, e) (ap m.nx (sym q)); others = rw (h, e) (ap m.rev (sym q)) }
+  entry_on h e q = record { nexts = rw (h, e) (ap m.nx (sym q)); others = rw (h, e) (ap m.rev (sym q)) }
 
-  pub entry-off : (m.on d && k (m.pt d)) ≡ false → Entry none m k d none none
+  pub entry_off : (m.on d && k (m.pt d)) ≡ false → Entry none m k d none none
   unfolding links level
-  entry-off h = record { nexts = rw h; others = rw h }
+  entry_off h = record { nexts = rw h; others = rw h }
 
 module _ {none : ℕ} {m : Map} {k : ℕ → Bool} {nt ot : ℕ → ℕ} where
   open m use {on, pt}
@@ -95,25 +95,25 @@ module _ {none : ℕ} {m : Map} {k : ℕ → Bool} {nt ot : ℕ → ℕ} where
   entries f = record { nexts = λ d. (f d).nexts; others = λ d. (f d).others }
 
   module _ (o : Over none m k nt ot) (d : ℕ) where
-    pub over-next : on d ≡ true → k (pt d) ≡ true → nt d ≡ next m k d
-    over-next h e = o.nexts d ∙ sym (entry-on none m k d h e refl).nexts
+    pub over_next : on d ≡ true → k (pt d) ≡ true → nt d ≡ next m k d
+    over_next h e = o.nexts d ∙ sym (entry_on none m k d h e refl).nexts
 
-    pub over-other : on d ≡ true → k (pt d) ≡ true → ot d ≡ other m k d
-    over-other h e = o.others d ∙ sym (entry-on none m k d h e refl).others
+    pub over_other : on d ≡ true → k (pt d) ≡ true → ot d ≡ other m k d
+    over_other h e = o.others d ∙ sym (entry_on none m k d h e refl).others
 
     -- a dart that is on in neither level keeps its entries
-    entry-none : (l : ℕ → Bool) → (on d && k (pt d)) ≡ false → (on d && l (pt d)) ≡ false
+    entry_none : (l : ℕ → Bool) → (on d && k (pt d)) ≡ false → (on d && l (pt d)) ≡ false
         → Entry none m l d (nt d) (ot d)
-    entry-none l h e =
-        let gone = entry-off none m k d h in
-        rw (o.nexts d ∙ sym gone.nexts, o.others d ∙ sym gone.others) (entry-off none m l d e)
+    entry_none l h e =
+        let gone = entry_off none m k d h in
+        rw (o.nexts d ∙ sym gone.nexts, o.others d ∙ sym gone.others) (entry_off none m l d e)
 
     -- so does one that is on in both or in neither, and has the same run in both
-    pub entry-stays : (l : ℕ → Bool) → (on d ≡ true → l (pt d) ≡ k (pt d))
+    pub entry_stays : (l : ℕ → Bool) → (on d ≡ true → l (pt d) ≡ k (pt d))
         → (on d ≡ true → k (pt d) ≡ true → last m l d ≡ last m k d) → Entry none m l d (nt d) (ot d)
-    entry-stays l same runs = go (on d) (k (pt d)) refl refl
+    entry_stays l same runs = go (on d) (k (pt d)) refl refl
       where
         go : (x y : Bool) → on d ≡ x → k (pt d) ≡ y → Entry none m l d (nt d) (ot d)
-        go true true h e = rw (over-next h e, over-other h e) (entry-on none m l d h (same h ∙ e) (runs h e))
-        go true false h e = entry-none l (rw (h, e)) (rw (h, same h, e))
-        go false y h e = entry-none l (rw h) (rw h)
+        go true true h e = rw (over_next h e, over_other h e) (entry_on none m l d h (same h ∙ e) (runs h e))
+        go true false h e = entry_none l (rw (h, e)) (rw (h, same h, e))
+        go false y h e = entry_none l (rw h) (rw h)

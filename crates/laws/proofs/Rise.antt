@@ -15,6 +15,6 @@ module _ (R : ℕ → ℕ → Type 0) (onward : (a b c : ℕ) → R a b → R b 
   rises f d r (suc i) = onward d (times f (suc i) d) (times f (suc (suc i)) d) (rises f d r i) (r (suc i))
 
   -- no dart is before its follower all along its orbit, which returns
-  pub never-rises : (never : (a : ℕ) → R a a → ⊥) {n : ℕ} {on : ℕ → Bool} {f : ℕ → ℕ} → Turns n on f
+  pub never_rises : (never : (a : ℕ) → R a a → ⊥) {n : ℕ} {on : ℕ → Bool} {f : ℕ → ℕ} → Turns n on f
       → (d : ℕ) → on d ≡ true → ((i : ℕ) → R (times f i d) (times f (suc i) d)) → ⊥
-  never-rises never {f = f} t d h r = let (k, _, e) = returns t d h in never d (rw e at (rises f d r k))
+  never_rises never {f = f} t d h r = let (k, _, e) = returns t d h in never d (rw e at (rises f d r k))

@@ -1,7 +1,7 @@
 // What the level drawing answers to a size, a level and lengths.
 ghost use Rattle.std.specs.Prelude.{◌≡◌, []};
-ghost use Rattle.laws.specs.First.{firstFailed};
-ghost use Rattle.paper.specs.Refusal.{levelTests};
+ghost use Rattle.laws.specs.First.{first_failed};
+ghost use Rattle.paper.specs.Refusal.{level_tests};
 ghost use Rattle.answer.specs.Answer.{number_of};
 ghost use Rattle.table_lengths.specs.Lengths.{lengths};
 
@@ -13,7 +13,7 @@ const HIGHEST: u16 = 3;
 // What the level drawing answers to a size, a level, the length of the sheet and the lengths of the tables by dart.
 pub fn refusal(width: u16, height: u16, level: u16, sheet: usize, by_dart: &[usize]) -> Answer
     ensures { number_of result ≡
-        firstFailed (levelTests width height level sheet (lengths width height [] by_dart.now)) }
+        first_failed (level_tests width height level sheet (lengths width height [] by_dart.now)) }
 {
     if !sheet_size::within(width, height) {
         return Answer::Size;

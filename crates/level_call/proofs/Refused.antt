@@ -1,5 +1,5 @@
 -- What the level drawing answers tells its outcome.
---   levelTests ..   == the tests of the level drawing, in the paper's order
+--   level_tests ..   == the tests of the level drawing, in the paper's order
 --   levelled ..     == its outcome
 --   told r ts ws    == the outcome that the answer r tells
 use mathlib.Core.Path.{◌≡◌, refl, sym, ap, ◌∙◌}
@@ -10,44 +10,44 @@ use Prim.Native.Nat.{ℕ, ◌*◌, ◌≤◌}
 use lib.Dec.{lit<}
 use lib.ListN.{length}
 use borrow.Author.Tests.{leb-true, eqb-true}
-use Rattle.laws.specs.First.{firstFailed, numbered}
-use Rattle.laws.proofs.First.{all-passed, failed-below}
+use Rattle.laws.specs.First.{first_failed, numbered}
+use Rattle.laws.proofs.First.{all_passed, failed_below}
 use Rattle.sheet_size.specs.Size.{within}
 use Rattle.point_darts.specs.Dart.{slots}
-use Rattle.paper.specs.Refusal.{cleared, levelTests, levelRefusal, levelTables, levelled}
+use Rattle.paper.specs.Refusal.{cleared, level_tests, level_refusal, level_tables, levelled}
 use Rattle.answer.specs.declared.Answer.{Answer}
 use Rattle.answer.specs.Answer.{number_of, told}
-use Rattle.answer.proofs.Outcome.{told-early, told-done}
+use Rattle.answer.proofs.Outcome.{told_early, told_done}
 use Rattle.table_lengths.specs.Lengths.{lengths}
-use Rattle.table_lengths.proofs.Tested.{Each, each-dart, dart-lengths}
+use Rattle.table_lengths.proofs.Tested.{Each, each_dart, dart_lengths}
 
-below : (w h l n : ℕ) (k : Bool) → numbered 1 5 (levelTests w h l n k) ≡ true
-unfolding numbered levelTests
+below : (w h l n : ℕ) (k : Bool) → numbered 1 5 (level_tests w h l n k) ≡ true
+unfolding numbered level_tests
 below w h l n k = refl
 
 -- A size, a level and lengths of which it is answered that nothing is refused.
-pub all_fit : (w h l n : ℕ) (ls : List ℕ) (r : Answer) → number_of r ≡ firstFailed (levelTests w h l n (lengths w h [] ls))
+pub all_fit : (w h l n : ℕ) (ls : List ℕ) (r : Answer) → number_of r ≡ first_failed (level_tests w h l n (lengths w h [] ls))
     → number_of r ≡ 0 → (within w h ≡ true) × (l ≤ 3) × (n ≡ w * h) × Each (slots w h) ls
-unfolding levelTests
+unfolding level_tests
 all_fit w h l n ls r e z =
     let k : Bool = lengths w h [] ls in
-    let p = all-passed 1 5 (lit< tt) (levelTests w h l n k) (below w h l n k) (sym e ∙ z) in
-    (p.0, leb-true l 3 p.1.0, eqb-true n (w * h) p.1.1.0, each-dart w h [] ls p.1.1.1.0)
+    let p = all_passed 1 5 (lit< tt) (level_tests w h l n k) (below w h l n k) (sym e ∙ z) in
+    (p.0, leb-true l 3 p.1.0, eqb-true n (w * h) p.1.1.0, each_dart w h [] ls p.1.1.1.0)
 
 -- A sheet and tables of which this is answered.
 module _ (w h l : ℕ) (i : List ℕ) (ts ws : List (List ℕ)) (r : Answer)
-    (e : number_of r ≡ firstFailed (levelTests w h l (length i) (lengths w h [] (map length (ts ++ ws))))) where
-  number : number_of r ≡ levelRefusal w h l i ts ws
-  unfolding levelRefusal
-  number = e ∙ ap (λ k. firstFailed (levelTests w h l (length i) k)) (dart-lengths w h (ts ++ ws))
+    (e : number_of r ≡ first_failed (level_tests w h l (length i) (lengths w h [] (map length (ts ++ ws))))) where
+  number : number_of r ≡ level_refusal w h l i ts ws
+  unfolding level_refusal
+  number = e ∙ ap (λ k. first_failed (level_tests w h l (length i) k)) (dart_lengths w h (ts ++ ws))
 
   pub refused : number_of r ≢ 0 → told r ts ws ≡ levelled w h l i ts ws
-  unfolding levelled levelRefusal
+  unfolding levelled level_refusal
   refused n =
-      told-early r (levelRefusal w h l i ts ws) number n
-      (failed-below 1 5 (levelTests w h l (length i) _) (lit< tt) (below w h l (length i) _)) [] ts (levelTables w h l i) ws
+      told_early r (level_refusal w h l i ts ws) number n
+      (failed_below 1 5 (level_tests w h l (length i) _) (lit< tt) (below w h l (length i) _)) [] ts (level_tables w h l i) ws
 
-  pub done : number_of r ≡ 0 → (us vs : List (List ℕ)) → us ≡ levelTables w h l i → vs ≡ cleared ws
+  pub done : number_of r ≡ 0 → (us vs : List (List ℕ)) → us ≡ level_tables w h l i → vs ≡ cleared ws
       → told Answer.Done us vs ≡ levelled w h l i ts ws
   unfolding levelled number_of
-  done z us vs p q = told-done Answer.Done (levelRefusal w h l i ts ws) (sym z ∙ number) refl ts (levelTables w h l i) ws us vs p q
+  done z us vs p q = told_done Answer.Done (level_refusal w h l i ts ws) (sym z ∙ number) refl ts (level_tables w h l i) ws us vs p q

@@ -4,7 +4,7 @@ ghost use Rattle.point_darts.specs.Dart.{points, slots};
 ghost use Rattle.paper.specs.Level.{tops};
 ghost use Rattle.paper.specs.Joining.{on};
 ghost use Rattle.level_kept.specs.Keep.{keeps};
-ghost use Rattle.level_call.specs.Tables.{keptPoints, tables_of, Surrounded};
+ghost use Rattle.level_call.specs.Tables.{kept_points, tables_of, Surrounded};
 
 use level_curves::link;
 use level_kept::keep;
@@ -47,7 +47,7 @@ fn keep_points(
     requires { (within width height ≡ true) × (length side.now ≡ slots width height) ×
         (length masks.now ≡ points width height) × (length scratch.old ≡ slots width height) ×
         (length kept.old ≡ points width height) }
-    ensures { kept.new ≡ keptPoints width height level masks.now side.now }
+    ensures { kept.new ≡ kept_points width height level masks.now side.now }
 {
     if level == 2 {
         keep::bends(width, height, masks, kept);

@@ -1,7 +1,7 @@
 ghost use Rattle.std.specs.Prelude.{◌≡◌, true, [], ◌∷◌, ◌+◌, ◌*◌, ◌≤◌, length};
 ghost use Rattle.sheet_size.specs.Size.{within};
 ghost use Rattle.point_darts.specs.Dart.{points, slots};
-ghost use Rattle.paper.specs.Refusal.{cleared, levelTables};
+ghost use Rattle.paper.specs.Refusal.{cleared, level_tables};
 ghost use Rattle.level_call.specs.Tables.{tables_of, Surrounded};
 
 use crate::{along, plain};
@@ -59,7 +59,7 @@ pub fn fill(
         (length b.old ≡ slots width height) × (length c.old ≡ slots width height) ×
         (length d.old ≡ slots width height) }
     ensures { ((next.new ∷ other.new ∷ side.new ∷ []) ≡
-        levelTables width height level sheet.now) ×
+        level_tables width height level sheet.now) ×
         ((a.new ∷ b.new ∷ c.new ∷ d.new ∷ []) ≡
         cleared (a.old ∷ b.old ∷ c.old ∷ d.old ∷ [])) }
 {

@@ -9,7 +9,7 @@ use Prim.Native.Nat.{ℕ, suc, ◌-◌, ◌≤◌, ◌<◌}
 use native.Mathlib.Omega.{arith}
 use borrow.Author.Tests.{eq-eqb, ne_eqb}
 use Rattle.laws.specs.Run.{run}
-use Rattle.laws.proofs.Walk.{run-stop, run-go}
+use Rattle.laws.proofs.Walk.{run_stop, run_go}
 use Rattle.point_darts.specs.Dart.{point}
 use Rattle.paper.specs.Joining.{at}
 use Rattle.level_curves.specs.Link.{ahead, kept_at, last_of}
@@ -31,14 +31,14 @@ module _ (n : ℕ) (x k : List ℕ) (s : ℕ) where
     unfolding kept_at ahead
     goes e = rw (← r.after) (ne_eqb _ 1 e)
 
-    pub running-stop : (v : ℕ) → v ≡ at k (point a) → v ≡ 1 → (d ≡ last_of n x k s) × (a ≡ at x d)
+    pub running_stop : (v : ℕ) → v ≡ at k (point a) → v ≡ 1 → (d ≡ last_of n x k s) × (a ≡ at x d)
     unfolding last_of
-    running-stop v q e =
-        (sym (r.same ∙ run-stop (at x) (λ e. kept_at k (ahead x e)) i d (stops (sym q ∙ e))), r.after)
+    running_stop v q e =
+        (sym (r.same ∙ run_stop (at x) (λ e. kept_at k (ahead x e)) i d (stops (sym q ∙ e))), r.after)
 
     step : kept_at k (ahead x d) ≡ false → (j : ℕ) → last_of (suc j) x k d ≡ last_of j x k (at x d)
     unfolding last_of
-    step e j = run-go (at x) (λ e. kept_at k (ahead x e)) j d e
+    step e j = run_go (at x) (λ e. kept_at k (ahead x e)) j d e
 
     pub running_more : (v b : ℕ) → 0 < i → v ≡ at k (point a) → v ≢ 1 → b ≡ at x a → Running n x k s (i - 1) a b
     running_more v b h q e f =
@@ -51,6 +51,6 @@ module _ (n : ℕ) (x k : List ℕ) (s : ℕ) where
           after = f;
         }
 
-    pub running-out : i ≤ 0 → (d ≡ last_of n x k s) × (a ≡ at x d)
+    pub running_out : i ≤ 0 → (d ≡ last_of n x k s) × (a ≡ at x d)
     unfolding last_of run
-    running-out h = let z : i ≡ 0 = omega arith in (sym (r.same ∙ rw z refl), r.after)
+    running_out h = let z : i ≡ 0 = omega arith in (sym (r.same ∙ rw z refl), r.after)

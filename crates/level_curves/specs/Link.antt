@@ -5,9 +5,9 @@
 --   last_of n x k d  == the last dart of the run from d along x, which leads to a kept point, looked for n steps far
 --   ahead x d       == the point that dart d leads to: its next along x leaves it
 --   back x d        == the reversal of dart d
---   alongNext ..   == the table of next; the mark where no dart starts
---   alongOther ..  == the table of other, likewise
---   nextAlong, otherAlong == their entries
+--   along_next ..   == the table of next; the mark where no dart starts
+--   along_other ..  == the table of other, likewise
+--   next_along, other_along == their entries
 --   TwoWay w n x k  == a run is the same run back from its other end
 --   Linking .. d y o == the tables y and o are being filled with next and other: every dart before d has its links, each from
 --                      d on has them or the mark
@@ -33,22 +33,22 @@ last_of n x k d = run (at x) (λ e. kept_at k (ahead x e)) n d
 unfoldable pub back : List ℕ → ℕ → ℕ
 back x d = dart (ahead x d) (turned (direction d) 2)
 
-unfoldable pub alongNext : ℕ → ℕ → List ℕ → List ℕ → List ℕ
-alongNext w h x k = marked w h (starts x k) (λ d. at x (last_of (slots w h) x k d))
+unfoldable pub along_next : ℕ → ℕ → List ℕ → List ℕ → List ℕ
+along_next w h x k = marked w h (starts x k) (λ d. at x (last_of (slots w h) x k d))
 
-unfoldable pub alongOther : ℕ → ℕ → List ℕ → List ℕ → List ℕ
-alongOther w h x k = marked w h (starts x k) (λ d. back x (last_of (slots w h) x k d))
+unfoldable pub along_other : ℕ → ℕ → List ℕ → List ℕ → List ℕ
+along_other w h x k = marked w h (starts x k) (λ d. back x (last_of (slots w h) x k d))
 
-unfoldable pub nextAlong : ℕ → List ℕ → List ℕ → ℕ → ℕ
-nextAlong n x k d = cond (starts x k d) (at x (last_of n x k d)) mark
+unfoldable pub next_along : ℕ → List ℕ → List ℕ → ℕ → ℕ
+next_along n x k d = cond (starts x k d) (at x (last_of n x k d)) mark
 
-unfoldable pub otherAlong : ℕ → List ℕ → List ℕ → ℕ → ℕ
-otherAlong n x k d = cond (starts x k d) (back x (last_of n x k d)) mark
+unfoldable pub other_along : ℕ → List ℕ → List ℕ → ℕ → ℕ
+other_along n x k d = cond (starts x k d) (back x (last_of n x k d)) mark
 
 pub record TwoWay (w n : ℕ) (x k : List ℕ) : Type 0 where
   pub stays : (d : ℕ) → on x d ≡ true → on x (at x d) ≡ true
-  pub other-back : (d : ℕ) → starts x k d ≡ true → otherAlong n x k (otherAlong n x k d) ≡ d
-  pub next-back : (d : ℕ) → starts x k d ≡ true → nextAlong n x k (otherAlong n x k d) ≡ at x (reversal w d)
+  pub other_back : (d : ℕ) → starts x k d ≡ true → other_along n x k (other_along n x k d) ≡ d
+  pub next_back : (d : ℕ) → starts x k d ≡ true → next_along n x k (other_along n x k d) ≡ at x (reversal w d)
 
 pub record Linking (w n : ℕ) (x k : List ℕ) (d : ℕ) (y o : List ℕ) : Type 0 where
   pub runs : TwoWay w n x k
@@ -58,4 +58,4 @@ pub record Linking (w n : ℕ) (x k : List ℕ) (d : ℕ) (y o : List ℕ) : Typ
   pub nexts : length y ≡ n
   pub others : length o ≡ n
   pub entry : (s : ℕ) → s < n
-      → ((at y s ≡ nextAlong n x k s) × (at o s ≡ otherAlong n x k s)) ⊎ ((d ≤ s) × (at y s ≡ mark) × (at o s ≡ mark))
+      → ((at y s ≡ next_along n x k s) × (at o s ≡ other_along n x k s)) ⊎ ((d ≤ s) × (at y s ≡ mark) × (at o s ≡ mark))

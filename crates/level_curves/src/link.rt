@@ -2,7 +2,7 @@ ghost use Rattle.std.specs.Prelude.{◌≡◌, true, ℕ, ◌+◌, ◌*◌, ◌<
 ghost use Rattle.sheet_size.specs.Size.{within};
 ghost use Rattle.point_darts.specs.Dart.{points, slots, dart, point, direction, turned};
 ghost use Rattle.paper.specs.Joining.{at, on};
-ghost use Rattle.level_curves.specs.Link.{kept_at, starts, last_of, alongNext, alongOther, TwoWay, Linking};
+ghost use Rattle.level_curves.specs.Link.{kept_at, starts, last_of, along_next, along_other, TwoWay, Linking};
 
 use point_darts::dart;
 use point_darts::dart::Dart;
@@ -168,8 +168,8 @@ pub fn links(
     requires { (within width height ≡ true) × (length next.old ≡ slots width height) ×
         (length other.old ≡ slots width height) × (length next1.now ≡ slots width height) ×
         (length kept.now ≡ points width height) × TwoWay width (slots width height) next1.now kept.now }
-    ensures { (next.new ≡ alongNext width height next1.now kept.now) ×
-        (other.new ≡ alongOther width height next1.now kept.now) }
+    ensures { (next.new ≡ along_next width height next1.now kept.now) ×
+        (other.new ≡ along_other width height next1.now kept.now) }
 {
     let steps = dart::slots(width, height);
     let n = dart::points(width, height);

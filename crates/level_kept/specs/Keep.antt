@@ -7,12 +7,12 @@
 use Rattle.std.specs.Prelude.{Bool, not, ◌&&◌, ◌||◌, List, ℕ, eqb}
 use Rattle.laws.specs.Table.{table, number, some}
 use Rattle.point_darts.specs.Dart.{points}
-use Rattle.point_rules.specs.Turn.{becomesOf}
+use Rattle.point_rules.specs.Turn.{becomes_of}
 use Rattle.paper.specs.Joining.{at}
 
 -- what the point table says of a point where no line is taken
 unfoldable pub kind_at : List ℕ → ℕ → ℕ
-kind_at m p = becomesOf (at m p) 0
+kind_at m p = becomes_of (at m p) 0
 
 unfoldable pub large : List ℕ → ℕ → Bool
 large m p = eqb (kind_at m p) 3

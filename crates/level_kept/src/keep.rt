@@ -2,7 +2,7 @@ ghost use Rattle.std.specs.Prelude.{◌≡◌, true, ◌||◌, ◌&&◌, not, eq
 ghost use Rattle.laws.specs.Table.{table, number};
 ghost use Rattle.sheet_size.specs.Size.{within};
 ghost use Rattle.point_darts.specs.Dart.{points};
-ghost use Rattle.point_rules.specs.Turn.{becomesOf};
+ghost use Rattle.point_rules.specs.Turn.{becomes_of};
 ghost use Rattle.paper.specs.Joining.{at};
 ghost use Rattle.region_parents.specs.Tops.{Rising};
 ghost use Rattle.level_kept.specs.Keep.{large, stands, settles, bends, keeps};
@@ -41,7 +41,7 @@ pub fn bends(width: u16, height: u16, masks: &[u16], kept: &mut [u16])
 
 // Whether a mask has three or four lines. By comparisons, which the compiler makes of many masks at a time.
 fn is_large(lines: u16) -> bool
-    ensures { result ≡ eqb (becomesOf lines 0) 3 }
+    ensures { result ≡ eqb (becomes_of lines 0) 3 }
 {
     (lines == 7) | (lines == 11) | ((12 < lines) & (lines < 16))
 }
@@ -103,7 +103,7 @@ fn flag(masks: &[u16], tops: &[u16], kept: &mut [u16])
 
 // 1 for a point with three or four lines, and for one with lines that is its own top and has no flag; else 0.
 fn settled(lines: u16, top: u16, p: u16, flag: u16) -> u16
-    ensures { result ≡ number (eqb (becomesOf lines 0) 3 || (not (eqb lines 0) && eqb top p && not (eqb flag 1))) }
+    ensures { result ≡ number (eqb (becomes_of lines 0) 3 || (not (eqb lines 0) && eqb top p && not (eqb flag 1))) }
 {
     number(is_large(lines) | ((lines != 0) & (top == p) & (flag != 1)))
 }

@@ -2,7 +2,7 @@
 --   around w f p    == the four cells round point p, from the names f with the outside round them, in rows of w + 1
 --   masked w h f    == level 1: the lines with two sides that differ
 --   ruled w h       == level 0: every line of the sheet
---   plainMasks w h l f == those of level 0, else of level 1
+--   plain_masks w h l f == those of level 0, else of level 1
 use Rattle.std.specs.Prelude.{cond, List, [], ◌∷◌, ℕ, ◌+◌, eqb, get_or}
 use Rattle.laws.specs.Table.{table}
 use Rattle.point_darts.specs.Dart.{points, line}
@@ -19,5 +19,5 @@ masked w h f = table (points w h) (λ p. present (around w f p))
 unfoldable pub ruled : ℕ → ℕ → List ℕ
 ruled w h = table (points w h) (mask (line w h))
 
-unfoldable pub plainMasks : ℕ → ℕ → ℕ → List ℕ → List ℕ
-plainMasks w h l f = cond (eqb l 0) (ruled w h) (masked w h f)
+unfoldable pub plain_masks : ℕ → ℕ → ℕ → List ℕ → List ℕ
+plain_masks w h l f = cond (eqb l 0) (ruled w h) (masked w h f)

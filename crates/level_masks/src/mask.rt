@@ -2,7 +2,7 @@ ghost use Rattle.std.specs.Prelude.{◌≡◌, true, ◌+◌, ◌*◌, ◌<◌, 
 ghost use Rattle.laws.specs.Table.{number};
 ghost use Rattle.sheet_size.specs.Size.{within};
 ghost use Rattle.point_darts.specs.Dart.{points};
-ghost use Rattle.level_masks.specs.Mask.{around, masked, ruled, plainMasks};
+ghost use Rattle.level_masks.specs.Mask.{around, masked, ruled, plain_masks};
 
 use point_cells::point;
 use point_darts::dart;
@@ -77,7 +77,7 @@ pub fn rule(width: u16, height: u16, masks: &mut [u16])
 pub fn draft(width: u16, height: u16, level: u16, framed: &[u16], lines: &mut [u16])
     requires { (within width height ≡ true) × (length framed.now ≡ points width height + width + 2) ×
         (length lines.old ≡ points width height) }
-    ensures { lines.new ≡ plainMasks width height level framed.now }
+    ensures { lines.new ≡ plain_masks width height level framed.now }
 {
     if level == 0 {
         rule(width, height, lines);

@@ -14,16 +14,16 @@ use Rattle.paper.specs.Joining.{on}
 use Rattle.table_entries.proofs.Entries.{at_in}
 
 module _ (t : List ℕ) where
-  pub used-none : 0 ≡ count 0 (on t)
+  pub used_none : 0 ≡ count 0 (on t)
   unfolding count
-  used-none = refl
+  used_none = refl
 
   -- an entry more
   module _ (i n : ℕ) (b : i < length t) (e : n ≡ count i (on t)) where
-    pub used-more : get_or t i 0 ≢ 65535 → n + 1 ≡ count (i + 1) (on t)
+    pub used_more : get_or t i 0 ≢ 65535 → n + 1 ≡ count (i + 1) (on t)
     unfolding count on mark
-    used-more p = rw (add-one i, ← at_in t i b, ne_eqb (get_or t i 0) 65535 p) (omega arith)
+    used_more p = rw (add-one i, ← at_in t i b, ne_eqb (get_or t i 0) 65535 p) (omega arith)
 
-    pub used-same : get_or t i 0 ≡ 65535 → n ≡ count (i + 1) (on t)
+    pub used_same : get_or t i 0 ≡ 65535 → n ≡ count (i + 1) (on t)
     unfolding count on mark
-    used-same p = rw (add-one i, ← at_in t i b, eq-eqb (get_or t i 0) 65535 p) (omega arith)
+    used_same p = rw (add-one i, ← at_in t i b, eq-eqb (get_or t i 0) 65535 p) (omega arith)

@@ -4,8 +4,8 @@
 --   ones t          == the darts that a table of links has, in order
 --   read t ds       == the entries of a table at some places
 --   refusal ..      == the number of joining a with b in the drawing of a sheet
---   holes-of w h s rs == how many holes some regions of a sheet have
---   turns-of w h s ds == the right turns of some darts of a sheet at level 3, then their left turns
+--   holes_of w h s rs == how many holes some regions of a sheet have
+--   turns_of w h s ds == the right turns of some darts of a sheet at level 3, then their left turns
 --   accepted w h t  == 1 where the tables t are a drawing, else 0
 --   spoilt w h t    == the same of the tables t with one entry changed, in each of the seven in turn
 --   hanging w h l   == the points that have exactly one line of the links l
@@ -18,18 +18,18 @@ use lib.Dec.{eqb, ltb}
 use lib.ListN.{set}
 use Rattle.laws.specs.Equal.{equal}
 use Rattle.laws.specs.Table.{number, count}
-use Rattle.laws.proofs.Cases.{Case, failed, none-failed}
-use Rattle.laws.proofs.Equal.{equal-true}
+use Rattle.laws.proofs.Cases.{Case, failed, none_failed}
+use Rattle.laws.proofs.Equal.{equal_true}
 use Rattle.sheet_size.specs.Size.{within}
 use Rattle.point_darts.specs.Dart.{mark, points, slots}
 use Rattle.point_darts.specs.Point.{degree}
-use Rattle.point_rules.specs.Turn.{isRight, isLeft}
+use Rattle.point_rules.specs.Turn.{is_right, is_left}
 use Rattle.paper.specs.Name.{names}
 use Rattle.paper.specs.Level.{border, mask, level, marked}
-use Rattle.paper.specs.Turns.{curveTurns}
+use Rattle.paper.specs.Turns.{curve_turns}
 use Rattle.paper.specs.Enclosure.{depth, holes}
-use Rattle.paper.specs.Contour.{innerContours}
-use Rattle.paper.specs.Drawing.{Tables, drawing, fresh, isDrawing}
+use Rattle.paper.specs.Contour.{inner_contours}
+use Rattle.paper.specs.Drawing.{Tables, drawing, fresh, is_drawing}
 use Rattle.paper.specs.Joining.{Links, at, on, rest1, rest3, joined}
 use Rattle.paper.specs.Refusal.{merged}
 use Rattle.paper.proofs.Opened.{opened}
@@ -85,35 +85,35 @@ halves : List ℕ
 halves = 65 ∷ 66 ∷ 65 ∷ 66 ∷ []
 
 -- P5 with corner (0,0) labelled C: two lines in a row at one point lie between the regions 1 and 2
-open-ring : List ℕ
-open-ring = 67 ∷ 65 ∷ 65 ∷ 65 ∷ 66 ∷ 65 ∷ 65 ∷ 65 ∷ 65 ∷ []
+open_ring : List ℕ
+open_ring = 67 ∷ 65 ∷ 65 ∷ 65 ∷ 66 ∷ 65 ∷ 65 ∷ 65 ∷ 65 ∷ []
 
 -- a closed curve that is no rectangle: its topmost point is not its leftmost
-bent-inside : List ℕ
-bent-inside = 65 ∷ 65 ∷ 65 ∷ 65 ∷ 65 ∷ 65 ∷ 66 ∷ 65 ∷ 65 ∷ 66 ∷ 66 ∷ 65 ∷ 65 ∷ 65 ∷ 65 ∷ 65 ∷ []
+bent_inside : List ℕ
+bent_inside = 65 ∷ 65 ∷ 65 ∷ 65 ∷ 65 ∷ 65 ∷ 66 ∷ 65 ∷ 65 ∷ 66 ∷ 66 ∷ 65 ∷ 65 ∷ 65 ∷ 65 ∷ 65 ∷ []
 
 -- the same with its lower left cell a region of its own
-bent-parts : List ℕ
-bent-parts = 65 ∷ 65 ∷ 65 ∷ 65 ∷ 65 ∷ 65 ∷ 66 ∷ 65 ∷ 65 ∷ 67 ∷ 66 ∷ 65 ∷ 65 ∷ 65 ∷ 65 ∷ 65 ∷ []
+bent_parts : List ℕ
+bent_parts = 65 ∷ 65 ∷ 65 ∷ 65 ∷ 65 ∷ 65 ∷ 66 ∷ 65 ∷ 65 ∷ 67 ∷ 66 ∷ 65 ∷ 65 ∷ 65 ∷ 65 ∷ 65 ∷ []
 
 -- B and C side by side in the middle of A
-two-parcels : List ℕ
-two-parcels = 65 ∷ 65 ∷ 65 ∷ 65 ∷ 65 ∷ 66 ∷ 67 ∷ 65 ∷ 65 ∷ 65 ∷ 65 ∷ 65 ∷ []
+two_parcels : List ℕ
+two_parcels = 65 ∷ 65 ∷ 65 ∷ 65 ∷ 65 ∷ 66 ∷ 67 ∷ 65 ∷ 65 ∷ 65 ∷ 65 ∷ 65 ∷ []
 
 -- B twice in A, apart
-two-ponds : List ℕ
-two-ponds = 65 ∷ 65 ∷ 65 ∷ 65 ∷ 65 ∷ 65 ∷ 66 ∷ 65 ∷ 66 ∷ 65 ∷ 65 ∷ 65 ∷ 65 ∷ 65 ∷ 65 ∷ []
+two_ponds : List ℕ
+two_ponds = 65 ∷ 65 ∷ 65 ∷ 65 ∷ 65 ∷ 65 ∷ 66 ∷ 65 ∷ 66 ∷ 65 ∷ 65 ∷ 65 ∷ 65 ∷ 65 ∷ 65 ∷ []
 
-holes-of : ℕ → ℕ → List ℕ → List ℕ → List ℕ
-holes-of w h s rs = let t = drawing w h s in map (holes w h (on t.side1) t.parent) rs
+holes_of : ℕ → ℕ → List ℕ → List ℕ → List ℕ
+holes_of w h s rs = let t = drawing w h s in map (holes w h (on t.side1) t.parent) rs
 
-turns-of : ℕ → ℕ → List ℕ → List ℕ → List ℕ
-turns-of w h s ds =
+turns_of : ℕ → ℕ → List ℕ → List ℕ → List ℕ
+turns_of w h s ds =
     let on = border w h (names w h s) in
-    read (curveTurns w h on isRight) ds ++ read (curveTurns w h on isLeft) ds
+    read (curve_turns w h on is_right) ds ++ read (curve_turns w h on is_left) ds
 
 accepted : ℕ → ℕ → Tables → List ℕ
-accepted w h t = number (isDrawing w h t) ∷ []
+accepted w h t = number (is_drawing w h t) ∷ []
 
 spoilt : ℕ → ℕ → Tables → List ℕ
 spoilt w h t =
@@ -179,8 +179,8 @@ claims =
     ∷ []
 
 -- Cases beside the marked ones, against the habits of the old program.
-beside-claims : List Claim
-beside-claims =
+beside_claims : List Claim
+beside_claims =
     -- A B A in a row, 1 joined with 2: the third region has the first one's label and is not drawn in
     record { computed = (fresh 3 1 row 1 2).parent; stated = mark ∷ 0 ∷ mark ∷ 0 ∷ [] }
     ∷ record { computed = (joined 3 1 (drawing 3 1 row) 1 2).parent; stated = mark ∷ 0 ∷ mark ∷ 0 ∷ [] }
@@ -197,23 +197,23 @@ beside-claims =
     ∷ record { computed = spoilt 2 1 (drawing 2 1 p2); stated = 0 ∷ 0 ∷ 0 ∷ 0 ∷ 0 ∷ 0 ∷ 0 ∷ [] }
     -- depth and hole count of the outside, of a ring and of what the ring encloses
     ∷ record { computed = map (depth (drawing 3 3 p5).parent) (0 ∷ 1 ∷ 5 ∷ []); stated = 0 ∷ 1 ∷ 2 ∷ [] }
-    ∷ record { computed = holes-of 3 3 p5 (0 ∷ 1 ∷ 5 ∷ []); stated = 1 ∷ 1 ∷ 0 ∷ [] }
+    ∷ record { computed = holes_of 3 3 p5 (0 ∷ 1 ∷ 5 ∷ []); stated = 1 ∷ 1 ∷ 0 ∷ [] }
     -- a hole is a hole, however many regions fill it; two are two, though they hold like labels; the outside has one
-    ∷ record { computed = holes-of 4 3 two-parcels (0 ∷ 1 ∷ 6 ∷ 7 ∷ []); stated = 1 ∷ 1 ∷ 0 ∷ 0 ∷ [] }
-    ∷ record { computed = holes-of 5 3 two-ponds (0 ∷ 1 ∷ 7 ∷ 9 ∷ []); stated = 1 ∷ 2 ∷ 0 ∷ 0 ∷ [] }
-    ∷ record { computed = holes-of 3 3 p6 (0 ∷ 1 ∷ 5 ∷ 9 ∷ []); stated = 1 ∷ 0 ∷ 0 ∷ 0 ∷ [] }
+    ∷ record { computed = holes_of 4 3 two_parcels (0 ∷ 1 ∷ 6 ∷ 7 ∷ []); stated = 1 ∷ 1 ∷ 0 ∷ 0 ∷ [] }
+    ∷ record { computed = holes_of 5 3 two_ponds (0 ∷ 1 ∷ 7 ∷ 9 ∷ []); stated = 1 ∷ 2 ∷ 0 ∷ 0 ∷ [] }
+    ∷ record { computed = holes_of 3 3 p6 (0 ∷ 1 ∷ 5 ∷ 9 ∷ []); stated = 1 ∷ 0 ∷ 0 ∷ 0 ∷ [] }
     -- as many inner contours
-    ∷ record { computed = map (innerContours 3 3 (names 3 3 p5)) (0 ∷ 1 ∷ 5 ∷ []); stated = 1 ∷ 1 ∷ 0 ∷ [] }
-    ∷ record { computed = map (innerContours 4 3 (names 4 3 two-parcels)) (0 ∷ 1 ∷ 6 ∷ []); stated = 1 ∷ 1 ∷ 0 ∷ [] }
+    ∷ record { computed = map (inner_contours 3 3 (names 3 3 p5)) (0 ∷ 1 ∷ 5 ∷ []); stated = 1 ∷ 1 ∷ 0 ∷ [] }
+    ∷ record { computed = map (inner_contours 4 3 (names 4 3 two_parcels)) (0 ∷ 1 ∷ 6 ∷ []); stated = 1 ∷ 1 ∷ 0 ∷ [] }
     -- turns inside the runs: P5, where the anchor's own is left out; P2, where the ends are; one turn among straight steps; a closed
     -- curve with turns to both hands
-    ∷ record { computed = turns-of 3 3 p5 (0 ∷ 1 ∷ 20 ∷ 21 ∷ []); stated = 3 ∷ 0 ∷ 3 ∷ 0 ∷ 0 ∷ 3 ∷ 0 ∷ 3 ∷ [] }
-    ∷ record { computed = turns-of 2 1 p2 (4 ∷ 16 ∷ 5 ∷ 6 ∷ []); stated = 2 ∷ 0 ∷ 0 ∷ 0 ∷ 0 ∷ 2 ∷ 0 ∷ 2 ∷ [] }
-    ∷ record { computed = turns-of 3 3 p6 (40 ∷ 42 ∷ 45 ∷ 47 ∷ []); stated = 0 ∷ 3 ∷ 1 ∷ 0 ∷ 0 ∷ 0 ∷ 0 ∷ 3 ∷ [] }
-    ∷ record { computed = turns-of 4 4 bent-inside (28 ∷ 29 ∷ []); stated = 4 ∷ 1 ∷ 1 ∷ 4 ∷ [] }
+    ∷ record { computed = turns_of 3 3 p5 (0 ∷ 1 ∷ 20 ∷ 21 ∷ []); stated = 3 ∷ 0 ∷ 3 ∷ 0 ∷ 0 ∷ 3 ∷ 0 ∷ 3 ∷ [] }
+    ∷ record { computed = turns_of 2 1 p2 (4 ∷ 16 ∷ 5 ∷ 6 ∷ []); stated = 2 ∷ 0 ∷ 0 ∷ 0 ∷ 0 ∷ 2 ∷ 0 ∷ 2 ∷ [] }
+    ∷ record { computed = turns_of 3 3 p6 (40 ∷ 42 ∷ 45 ∷ 47 ∷ []); stated = 0 ∷ 3 ∷ 1 ∷ 0 ∷ 0 ∷ 0 ∷ 0 ∷ 3 ∷ [] }
+    ∷ record { computed = turns_of 4 4 bent_inside (28 ∷ 29 ∷ []); stated = 4 ∷ 1 ∷ 1 ∷ 4 ∷ [] }
     -- the mark at every slot that is no dart of level 3
     ∷ record {
-      computed = ones 2 1 (curveTurns 2 1 (border 2 1 (names 2 1 p2)) isRight);
+      computed = ones 2 1 (curve_turns 2 1 (border 2 1 (names 2 1 p2)) is_right);
       stated = 4 ∷ 5 ∷ 6 ∷ 16 ∷ 18 ∷ 19 ∷ [];
     }
     -- totals: the outside has no cells and 2 (w + h) border lines, a name that is not in use the mark; cells are added, and borders less
@@ -228,11 +228,11 @@ beside-claims =
     ∷ record { computed = map (λ n. number (within n 1)) (0 ∷ 1 ∷ 110 ∷ 111 ∷ []); stated = 0 ∷ 1 ∷ 1 ∷ 0 ∷ [] }
     ∷ record { computed = map (λ n. number (within 1 n)) (0 ∷ 1 ∷ 72 ∷ 73 ∷ []); stated = 0 ∷ 1 ∷ 1 ∷ 0 ∷ [] }
     -- a join at whose point two taken lines are met one after another
-    ∷ record { computed = (joined 3 3 (drawing 3 3 open-ring) 1 2).next1; stated = (drawing 3 3 p5).next1 }
-    ∷ record { computed = (joined 3 3 (drawing 3 3 open-ring) 1 2).next3; stated = (drawing 3 3 p5).next3 }
+    ∷ record { computed = (joined 3 3 (drawing 3 3 open_ring) 1 2).next1; stated = (drawing 3 3 p5).next1 }
+    ∷ record { computed = (joined 3 3 (drawing 3 3 open_ring) 1 2).next3; stated = (drawing 3 3 p5).next3 }
     -- the anchor of a closed curve is its topmost point, and not its leftmost, drawn and after a join
-    ∷ record { computed = ones 4 4 (drawing 4 4 bent-inside).next3; stated = 0 ∷ 1 ∷ 28 ∷ 29 ∷ [] }
-    ∷ record { computed = ones 4 4 (joined 4 4 (drawing 4 4 bent-parts) 7 10).next3; stated = 0 ∷ 1 ∷ 28 ∷ 29 ∷ [] }
+    ∷ record { computed = ones 4 4 (drawing 4 4 bent_inside).next3; stated = 0 ∷ 1 ∷ 28 ∷ 29 ∷ [] }
+    ∷ record { computed = ones 4 4 (joined 4 4 (drawing 4 4 bent_parts) 7 10).next3; stated = 0 ∷ 1 ∷ 28 ∷ 29 ∷ [] }
     ∷ []
 
 -- After step 1 no point has exactly one line, at level 1 and at level 3: the joins of the cases, and one more.
@@ -254,44 +254,44 @@ joins =
 hanging : ℕ → ℕ → Links → List ℕ
 hanging w h l = picked (λ p. eqb (degree (mask (on l.next) p)) 1) 0 (points w h)
 
-hanging-ends : Join → List ℕ
-hanging-ends j =
+hanging_ends : Join → List ℕ
+hanging_ends j =
     let t = drawing j.w j.h j.sheet in
     hanging j.w j.h (rest1 j.w j.h t j.a j.b)
     ++ hanging j.w j.h (rest3 j.w j.h t j.a j.b)
 
-hanging-claims : List Claim
-hanging-claims = map (λ j. record { computed = hanging-ends j; stated = [] }) joins
+hanging_claims : List Claim
+hanging_claims = map (λ j. record { computed = hanging_ends j; stated = [] }) joins
 
-sheets-open : Unit {0}
-unfolding p1 p2 p3 p5 p6 p7 p8 row halves open-ring bent-inside bent-parts two-parcels two-ponds
-sheets-open = tt
+sheets_open : Unit {0}
+unfolding p1 p2 p3 p5 p6 p7 p8 row halves open_ring bent_inside bent_parts two_parcels two_ponds
+sheets_open = tt
 
-joins-open : Unit {0}
-unfolding joins hanging hanging-ends hanging-claims
-joins-open = tt
+joins_open : Unit {0}
+unfolding joins hanging hanging_ends hanging_claims
+joins_open = tt
 
-cases-open : Unit {0}
-unfolding opened sheets-open joins-open refusal accepted spoilt holes-of turns-of darts picked ones read claims beside-claims
-cases-open = tt
+cases_open : Unit {0}
+unfolding opened sheets_open joins_open refusal accepted spoilt holes_of turns_of darts picked ones read claims beside_claims
+cases_open = tt
 
-claims-hold : failed equal 0 claims ≡ []
-unfolding cases-open
-claims-hold = refl
+claims_hold : failed equal 0 claims ≡ []
+unfolding cases_open
+claims_hold = refl
 
-beside-hold : failed equal 0 beside-claims ≡ []
-unfolding cases-open
-beside-hold = refl
+beside_hold : failed equal 0 beside_claims ≡ []
+unfolding cases_open
+beside_hold = refl
 
-hanging-hold : failed equal 0 hanging-claims ≡ []
-unfolding cases-open
-hanging-hold = refl
+hanging_hold : failed equal 0 hanging_claims ≡ []
+unfolding cases_open
+hanging_hold = refl
 
-marked-cases : map (λ (c : Claim). c.computed) claims ≡ map (λ (c : Claim). c.stated) claims
-marked-cases = none-failed equal equal-true 0 claims claims-hold
+marked_cases : map (λ (c : Claim). c.computed) claims ≡ map (λ (c : Claim). c.stated) claims
+marked_cases = none_failed equal equal_true 0 claims claims_hold
 
-cases-beside : map (λ (c : Claim). c.computed) beside-claims ≡ map (λ (c : Claim). c.stated) beside-claims
-cases-beside = none-failed equal equal-true 0 beside-claims beside-hold
+cases_beside : map (λ (c : Claim). c.computed) beside_claims ≡ map (λ (c : Claim). c.stated) beside_claims
+cases_beside = none_failed equal equal_true 0 beside_claims beside_hold
 
-no-hanging-ends : map (λ (c : Claim). c.computed) hanging-claims ≡ map (λ (c : Claim). c.stated) hanging-claims
-no-hanging-ends = none-failed equal equal-true 0 hanging-claims hanging-hold
+no_hanging_ends : map (λ (c : Claim). c.computed) hanging_claims ≡ map (λ (c : Claim). c.stated) hanging_claims
+no_hanging_ends = none_failed equal equal_true 0 hanging_claims hanging_hold

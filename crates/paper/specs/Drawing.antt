@@ -4,7 +4,7 @@
 --   fresh w h s a b == drawn afresh from the cells' names, a and b both bearing the smaller
 --   Drawn w h t     == the seven tables are the drawing of some sheet of this size
 --   recovered w h s == the labels that the sides of level 1 tell
---   isDrawing w h t    == the seven tables are the drawing of the recovered labels
+--   is_drawing w h t    == the seven tables are the drawing of the recovered labels
 use Rattle.std.specs.Prelude.{◌≡◌, Bool, cond, ◌&&◌, List, [], ◌∷◌, map, ℕ, zero, suc, ◌+◌, ◌*◌, ◌/◌, eqb, get_or, length}
 use Rattle.laws.specs.Equal.{equal}
 use Rattle.laws.specs.Least.{lower}
@@ -12,7 +12,7 @@ use Rattle.point_darts.specs.Dart.{mark, dart}
 use Rattle.paper.specs.Name.{names}
 use Rattle.paper.specs.Level.{side, border, level, marked}
 use Rattle.paper.specs.Enclosure.{parents}
-use Rattle.paper.specs.Total.{cells_of, bordersOf, totals}
+use Rattle.paper.specs.Total.{cells_of, borders_of, totals}
 
 pub record Tables : Type 0 where
   pub next1 : List ℕ
@@ -34,7 +34,7 @@ drawn w h n =
       other3 = marked w h l3.on l3.other;
       parent = parents w h (border w h n) (side w h n);
       cells = totals w h (cells_of w h n) (cells_of w h n);
-      borders = totals w h (cells_of w h n) (bordersOf w h n);
+      borders = totals w h (cells_of w h n) (borders_of w h n);
     }
 
 unfoldable pub drawing : ℕ → ℕ → List ℕ → Tables
@@ -67,5 +67,5 @@ same t u =
     && equal t.cells u.cells
     && equal t.borders u.borders
 
-unfoldable pub isDrawing : ℕ → ℕ → Tables → Bool
-isDrawing w h t = same t (drawing w h (recovered w h t.side1))
+unfoldable pub is_drawing : ℕ → ℕ → Tables → Bool
+is_drawing w h t = same t (drawing w h (recovered w h t.side1))

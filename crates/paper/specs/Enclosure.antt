@@ -1,6 +1,6 @@
 -- Enclosure and the two counts (the paper, "Enclosure and the two counts"; holes as request T-02 has them), over the lines that are
 -- on and their sides. A piece is told by its least point.
---   topSide w i     == the dart that runs east along the top side of cell i
+--   top_side w i     == the dart that runs east along the top side of cell i
 --   outer w t i     == the outer piece of the region whose first cell is i: the one that holds the top side of that cell; t has
 --                      the tops
 --   parent w .. r   == the region round the outer piece of the region named r, the mark where no region has that name
@@ -13,17 +13,17 @@ use Rattle.laws.specs.Table.{table, count, some}
 use Rattle.point_darts.specs.Dart.{mark, points, dart, point, reversal}
 use Rattle.paper.specs.Level.{tops}
 
-unfoldable pub topSide : ℕ → ℕ → ℕ
-topSide w i = dart (i + i / w) 0
+unfoldable pub top_side : ℕ → ℕ → ℕ
+top_side w i = dart (i + i / w) 0
 
 abbrev pub outer : ℕ → List ℕ → ℕ → ℕ
-outer w t i = get_or t (point (topSide w i)) 0
+outer w t i = get_or t (point (top_side w i)) 0
 
 -- a name is in use where the top side of its first cell bears it
 unfoldable pub parent : ℕ → (ℕ → Bool) → (ℕ → ℕ) → List ℕ → ℕ → ℕ
 parent w on side t zero = mark
 parent w on side t (suc i) =
-    cond (on (topSide w i) && eqb (side (topSide w i)) (suc i))
+    cond (on (top_side w i) && eqb (side (top_side w i)) (suc i))
     (side (reversal w (dart (outer w t i) 0)))
     mark
 

@@ -5,7 +5,7 @@
 --   rest1, rest3    == step 1: the links of level 1, and of level 3, without the darts of sides a and b
 --   smoothed ..     == step 3: the links without the points that have two darts of two different edges
 --   closed ..       == step 4: each closed curve's darts moved to its anchor
---   sharedLines ..  == how many lines a and b share: each has one dart with a on its right hand and b on its left
+--   shared_lines ..  == how many lines a and b share: each has one dart with a on its right hand and b on its left
 --   added a b k t   == step 5, totals: what a and b have in the table t, added up less k, is the smaller's; the larger has none
 --   joined w h t a b == the seven tables after steps 1, 3, 4 and 5
 -- Step 2 removed hanging ends; step 1 leaves none (`no-hanging-line`, `no-hanging-curve` in `paper_laws`), so request T-07 took it out.
@@ -118,8 +118,8 @@ closes lines t (suc n) p l = closes lines t n (suc p) (close lines t l p)
 unfoldable pub closed : ℕ → ℕ → (ℕ → Bool) → Links → Links
 closed w h lines l = let t = tops w h lines in closes lines t (points w h) 0 l
 
-unfoldable pub sharedLines : ℕ → ℕ → List ℕ → ℕ → ℕ → ℕ
-sharedLines w h s a b = count (slots w h) (λ d. eqb (at s d) a && eqb (at s (reversal w d)) b)
+unfoldable pub shared_lines : ℕ → ℕ → List ℕ → ℕ → ℕ → ℕ
+shared_lines w h s a b = count (slots w h) (λ d. eqb (at s d) a && eqb (at s (reversal w d)) b)
 
 unfoldable pub added : ℕ → ℕ → ℕ → List ℕ → List ℕ
 added a b k t = set (set t (min a b) (at t a + at t b - k)) (max a b) mark
@@ -136,5 +136,5 @@ joined w h t a b =
       other3 = c3.other;
       parent = parents w h (on s1) (at s1);
       cells = added a b 0 t.cells;
-      borders = added a b (2 * sharedLines w h t.side1 a b) t.borders;
+      borders = added a b (2 * shared_lines w h t.side1 a b) t.borders;
     }

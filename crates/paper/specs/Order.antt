@@ -7,18 +7,18 @@
 --   stop k i t      == a stop with the number k at the place i, with the tables t
 --   unless k i t s  == such a stop; the stop s where the number is 0
 --   joins w h i l t == where the entries l stop, the first of them at the place i, joined in the tables t
---   listTests ..    == the tests of the call, in order, before the entries; n is the length of the list
---   listStop ..     == where the call stops
---   mergedList ..   == the outcome of joining by a list
+--   list_tests ..    == the tests of the call, in order, before the entries; n is the length of the list
+--   list_stop ..     == where the call stops
+--   merged_list ..   == the outcome of joining by a list
 --   grouping s      == of the cells that have the labels s: two are together where their labels are equal
 --   grouped w h t   == of the cells of a drawing: two are together where they are of one region
 --   Alike w h f g   == two groupings of the cells of a sheet are the same
 use Rattle.std.specs.Prelude.{◌≡◌, Bool, cond, ◌&&◌, List, [], ◌∷◌, ◌++◌, ℕ, zero, suc, ◌*◌, ◌%◌, ◌<◌, eqb, leb, length}
-use Rattle.laws.specs.First.{firstFailed}
+use Rattle.laws.specs.First.{first_failed}
 use Rattle.paper.specs.Name.{label}
-use Rattle.paper.specs.Drawing.{Tables, recovered, isDrawing}
+use Rattle.paper.specs.Drawing.{Tables, recovered, is_drawing}
 use Rattle.paper.specs.Joining.{joined}
-use Rattle.paper.specs.Refusal.{Outcome, ended, workLeft, stated, seven, sizeTests, pairTests}
+use Rattle.paper.specs.Refusal.{Outcome, ended, work_left, stated, seven, size_tests, pair_tests}
 
 unfoldable pub pairs : List ℕ → List (ℕ × ℕ)
 pairs [] = []
@@ -44,24 +44,24 @@ unless (suc k) i t s = stop (suc k) i t
 unfoldable pub joins : ℕ → ℕ → ℕ → List (ℕ × ℕ) → Tables → Stop
 joins w h i [] t = stop 0 i t
 joins w h i (e ∷ l) t =
-    unless (firstFailed (pairTests w h t.side1 t.parent e.0 e.1)) i t
+    unless (first_failed (pair_tests w h t.side1 t.parent e.0 e.1)) i t
     (joins w h (suc i) l (joined w h t e.0 e.1))
 
-unfoldable pub listTests : ℕ → ℕ → Tables → ℕ → List (List ℕ) → List (Bool × ℕ)
-listTests w h t n ws = sizeTests w h (stated w h t ws) ++ (whole w n, 12) ∷ (isDrawing w h t, 5) ∷ []
+unfoldable pub list_tests : ℕ → ℕ → Tables → ℕ → List (List ℕ) → List (Bool × ℕ)
+list_tests w h t n ws = size_tests w h (stated w h t ws) ++ (whole w n, 12) ∷ (is_drawing w h t, 5) ∷ []
 
-unfoldable pub listStop : ℕ → ℕ → Tables → List ℕ → List (List ℕ) → Stop
-listStop w h t l ws = unless (firstFailed (listTests w h t (length l) ws)) 0 t (joins w h 0 (pairs l) t)
+unfoldable pub list_stop : ℕ → ℕ → Tables → List ℕ → List (List ℕ) → Stop
+list_stop w h t l ws = unless (first_failed (list_tests w h t (length l) ws)) 0 t (joins w h 0 (pairs l) t)
 
 -- a refusal tells its place
 unfoldable pub placed : ℕ → ℕ → List ℕ
 placed zero i = []
 placed (suc k) i = i ∷ []
 
-unfoldable pub mergedList : ℕ → ℕ → Tables → List ℕ → List (List ℕ) → Outcome
-mergedList w h t l ws =
-    let s = listStop w h t l ws in
-    ended s.number (placed s.number s.place) (seven s.tables) (workLeft s.number ws)
+unfoldable pub merged_list : ℕ → ℕ → Tables → List ℕ → List (List ℕ) → Outcome
+merged_list w h t l ws =
+    let s = list_stop w h t l ws in
+    ended s.number (placed s.number s.place) (seven s.tables) (work_left s.number ws)
 
 unfoldable pub grouping : List ℕ → ℕ → ℕ → Bool
 grouping s i j = eqb (label s i) (label s j)

@@ -61,5 +61,5 @@ pub record Untouched (t : Tables) (a b d : ℕ) : Type 0 where
 pub record Keeps (t u : Tables) (d : ℕ) : Type 0 where
   pub next : at u.next3 d ≡ at t.next3 d
   pub other : at u.other3 d ≡ at t.other3 d
-  pub far-next : at u.next3 (at t.other3 d) ≡ at t.next3 (at t.other3 d)
-  pub far-other : at u.other3 (at t.other3 d) ≡ d
+  pub far_next : at u.next3 (at t.other3 d) ≡ at t.next3 (at t.other3 d)
+  pub far_other : at u.other3 (at t.other3 d) ≡ d

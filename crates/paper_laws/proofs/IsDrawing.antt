@@ -17,27 +17,27 @@ use lib.ListN.{length, get_or}
 use borrow.Author.Tests.{eq-eqb, ne_eqb}
 use Rattle.laws.specs.Equal.{equal}
 use Rattle.laws.specs.Table.{listed, table}
-use Rattle.laws.proofs.Equal.{equal-own, equal-iff}
-use Rattle.laws.proofs.Table.{table-entries}
-use Rattle.laws.proofs.Test.{and-true, and_left, and_right}
+use Rattle.laws.proofs.Equal.{equal_own, equal_iff}
+use Rattle.laws.proofs.Table.{table_entries}
+use Rattle.laws.proofs.Test.{and_true, and_left, and_right}
 use Rattle.point_darts.specs.Dart.{mark, slots, dart}
 use Rattle.point_darts.proofs.Darts.{place}
 use Rattle.paper.specs.Name.{names, named}
 use Rattle.paper.specs.Level.{side, border, plain, level, marked}
-use Rattle.paper.specs.Drawing.{Tables, Drawn, drawn, drawing, recover, recovered, same, isDrawing}
+use Rattle.paper.specs.Drawing.{Tables, Drawn, drawn, drawing, recover, recovered, same, is_drawing}
 use Rattle.paper.specs.Joining.{at}
-use Rattle.paper_laws.proofs.Cells.{named-west}
-use Rattle.paper_laws.proofs.Name.{cell_below, length-names, name-range, names-names}
-use Rattle.paper_laws.proofs.First.{every-cell, named-cell}
-use Rattle.paper_laws.proofs.Sheet.{across, side-north, across-north, border-below, border-agrees}
-use Rattle.paper_laws.proofs.Marks.{at_held, at-free, names-side-small}
+use Rattle.paper_laws.proofs.Cells.{named_west}
+use Rattle.paper_laws.proofs.Name.{cell_below, length_names, name_range, names_names}
+use Rattle.paper_laws.proofs.First.{every_cell, named_cell}
+use Rattle.paper_laws.proofs.Sheet.{across, side_north, across_north, border_below, border_agrees}
+use Rattle.paper_laws.proofs.Marks.{at_held, at_free, names_side_small}
 
 hung : ℕ → ℕ → ℕ
 hung w i = dart (i + i / w + (w + 1)) 3
 
-hung-place : (w x y : ℕ) → x < w → hung w (y * w + x) ≡ dart (place w x (suc y)) 3
+hung_place : (w x y : ℕ) → x < w → hung w (y * w + x) ≡ dart (place w x (suc y)) 3
 unfolding hung place
-hung-place w x y a =
+hung_place w x y a =
     let z : 0 < w = omega arith in
     let e : (y * w + x) / w ≡ y = mul-add-div_right z y x ∙ rw (div-eq_of_lt a) (add-zero y) in
     ap (λ p. dart p 3) (rw (e, suc-mul y (w + 1), mul-add y w 1) (omega arith))
@@ -53,9 +53,9 @@ carried_first : (n : List ℕ) (v : ℕ) → Carried n v 0
 unfolding Carried
 carried_first n v j e = absurd (omega arith)
 
-carried-next : (n : List ℕ) (v i : ℕ) → v ≡ get_or n i 0 → Carried n v (suc i)
+carried_next : (n : List ℕ) (v i : ℕ) → v ≡ get_or n i 0 → Carried n v (suc i)
 unfolding Carried
-carried-next n v i p j e = let q : i ≡ j = omega arith in rw (← q) p
+carried_next n v i p j e = let q : i ≡ j = omega arith in rw (← q) p
 
 abbrev sides : ℕ → ℕ → List ℕ → List ℕ
 sides w h n = marked w h (border w h n) (side w h n)
@@ -63,86 +63,86 @@ sides w h n = marked w h (border w h n) (side w h n)
 -- A sheet whose cells have the names n, none of them 0, the name of the outside.
 module _ (w h : ℕ) (n : List ℕ) (positive : (i : ℕ) → i < w * h → 1 ≤ get_or n i 0) where
   -- the side of the dart is the cell
-  hung-side : (i : ℕ) → i < w * h → side w h n (hung w i) ≡ get_or n i 0
-  hung-side = every-cell w h (λ i. side w h n (hung w i) ≡ get_or n i 0)
+  hung_side : (i : ℕ) → i < w * h → side w h n (hung w i) ≡ get_or n i 0
+  hung_side = every_cell w h (λ i. side w h n (hung w i) ≡ get_or n i 0)
       (λ x y a b.
       let l : x ≤ w = omega arith in
-      rw (hung-place w x y a) (side-north w h n x (suc y) l ∙ named-cell w h n x y a b))
+      rw (hung_place w x y a) (side_north w h n x (suc y) l ∙ named_cell w h n x y a b))
 
   -- and left of it is the cell before, or the outside
-  hung-across : (x y : ℕ) → x < w → across w h n (hung w (y * w + x)) ≡ named w h n x (suc y)
-  hung-across x y a = let l : x ≤ w = omega arith in rw (hung-place w x y a) (across-north w h n x (suc y) l)
+  hung_across : (x y : ℕ) → x < w → across w h n (hung w (y * w + x)) ≡ named w h n x (suc y)
+  hung_across x y a = let l : x ≤ w = omega arith in rw (hung_place w x y a) (across_north w h n x (suc y) l)
 
-  carried-name : (v x y : ℕ) → x < w → y < h → Carried n v (y * w + x)
+  carried_name : (v x y : ℕ) → x < w → y < h → Carried n v (y * w + x)
       → get_or n (y * w + x) 0 ≡ named w h n x (suc y) → v ≡ get_or n (y * w + x) 0
   unfolding Carried
-  carried-name v zero y a b c e =
-      absurd (omega (arith, positive (y * w + 0) (cell_below w h 0 y a b), e, named-west w h n (suc y)))
-  carried-name v (suc x) y a b c e =
+  carried_name v zero y a b c e =
+      absurd (omega (arith, positive (y * w + 0) (cell_below w h 0 y a b), e, named_west w h n (suc y)))
+  carried_name v (suc x) y a b c e =
       let l : x < w = omega arith in
-      c (y * w + x) (omega arith) ∙ sym (named-cell w h n x y l b) ∙ sym e
+      c (y * w + x) (omega arith) ∙ sym (named_cell w h n x y l b) ∙ sym e
 
   -- where the line is no border, the cell has the name of the cell before
-  hung-carried : (v i : ℕ) → i < w * h → Carried n v i
+  hung_carried : (v i : ℕ) → i < w * h → Carried n v i
       → side w h n (hung w i) ≡ across w h n (hung w i) → v ≡ get_or n i 0
-  hung-carried v = every-cell w h
+  hung_carried v = every_cell w h
       (λ i. Carried n v i → side w h n (hung w i) ≡ across w h n (hung w i) → v ≡ get_or n i 0)
       (λ x y a b c e.
-      carried-name v x y a b c (sym (hung-side (y * w + x) (cell_below w h x y a b)) ∙ e ∙ hung-across x y a))
+      carried_name v x y a b c (sym (hung_side (y * w + x) (cell_below w h x y a b)) ∙ e ∙ hung_across x y a))
 
   module _ (small : (d : ℕ) → side w h n d < mark) where
-    told-name : (v i : ℕ) → i < w * h → Carried n v i → told w (sides w h n) v i ≡ get_or n i 0
+    told_name : (v i : ℕ) → i < w * h → Carried n v i → told w (sides w h n) v i ≡ get_or n i 0
     unfolding told
-    told-name v i l c = go (border w h n (hung w i)) refl
+    told_name v i l c = go (border w h n (hung w i)) refl
       where
         go : (t : Bool) → border w h n (hung w i) ≡ t → told w (sides w h n) v i ≡ get_or n i 0
         go true e =
             rw (
-              at_held w h (border w h n) (side w h n) (border-below w h n) (hung w i) e,
+              at_held w h (border w h n) (side w h n) (border_below w h n) (hung w i) e,
               ne_eqb (side w h n (hung w i)) mark (λ q. omega (arith, small (hung w i))),
             )
-            (hung-side i l)
+            (hung_side i l)
         go false e =
-            rw (at-free w h (border w h n) (side w h n) (border-below w h n) (hung w i) e, eq-eqb mark mark refl)
-            (hung-carried v i l c (border-agrees w h n (hung w i) e))
+            rw (at_free w h (border w h n) (side w h n) (border_below w h n) (hung w i) e, eq-eqb mark mark refl)
+            (hung_carried v i l c (border_agrees w h n (hung w i) e))
 
-    recover-names : (k i v : ℕ) → i + k ≡ w * h → Carried n v i
+    recover_names : (k i v : ℕ) → i + k ≡ w * h → Carried n v i
         → recover w (sides w h n) v i k ≡ listed (λ j. get_or n j 0) i k
     unfolding recover listed told at hung
-    recover-names zero i v e c = refl
-    recover-names (suc k) i v e c =
+    recover_names zero i v e c = refl
+    recover_names (suc k) i v e c =
         let u = told w (sides w h n) v i in
-        let p = told-name v i (omega arith) c in
-        ap₂ ◌∷◌ p (recover-names k (suc i) u (omega arith) (carried-next n u i p))
+        let p = told_name v i (omega arith) c in
+        ap₂ ◌∷◌ p (recover_names k (suc i) u (omega arith) (carried_next n u i p))
 
     -- the labels that are recovered are the names
-    pub recovered-sides : length n ≡ w * h → recovered w h (sides w h n) ≡ n
+    pub recovered_sides : length n ≡ w * h → recovered w h (sides w h n) ≡ n
     unfolding recovered table
-    recovered-sides e =
-        recover-names (w * h) 0 mark (zero-add (w * h)) (carried_first n mark) ∙ table-entries (w * h) n 0 e
+    recovered_sides e =
+        recover_names (w * h) 0 mark (zero-add (w * h)) (carried_first n mark) ∙ table_entries (w * h) n 0 e
 
 -- The names of a sheet are such names.
 module _ (w h : ℕ) (s : List ℕ) where
-  pub recovered-names : slots w h ≤ mark → recovered w h (drawing w h s).side1 ≡ names w h s
+  pub recovered_names : slots w h ≤ mark → recovered w h (drawing w h s).side1 ≡ names w h s
   unfolding drawing drawn level plain
-  recovered-names fits =
-      recovered-sides w h (names w h s) (λ i b. (name-range w h s i b).0) (names-side-small w h s fits)
-      (length-names w h s)
+  recovered_names fits =
+      recovered_sides w h (names w h s) (λ i b. (name_range w h s i b).0) (names_side_small w h s fits)
+      (length_names w h s)
 
   -- the names as labels make the same drawing
-  pub same-drawing : drawing w h (names w h s) ≡ drawing w h s
+  pub same_drawing : drawing w h (names w h s) ≡ drawing w h s
   unfolding drawing
-  same-drawing = ap (drawn w h) (names-names w h s)
+  same_drawing = ap (drawn w h) (names_names w h s)
 
 -- So a drawing tells the names of its sheet.
-pub recovered-drawn : (w h : ℕ) → slots w h ≤ mark → (t : Tables) (d : Drawn w h t) → recovered w h t.side1 ≡ names w h d.labels
-recovered-drawn w h fits t d =
-    ap (λ (u : Tables). recovered w h u.side1) (sym d.same) ∙ recovered-names w h d.labels fits
+pub recovered_drawn : (w h : ℕ) → slots w h ≤ mark → (t : Tables) (d : Drawn w h t) → recovered w h t.side1 ≡ names w h d.labels
+recovered_drawn w h fits t d =
+    ap (λ (u : Tables). recovered w h u.side1) (sym d.same) ∙ recovered_names w h d.labels fits
 
 -- Tables are the same where they are equal: each of the seven is equal.
-all-seven : (a b c d e f g : Bool) → (a && b && c && d && e && f && g) ≡ true
+all_seven : (a b c d e f g : Bool) → (a && b && c && d && e && f && g) ≡ true
     → (a ≡ true) × (b ≡ true) × (c ≡ true) × (d ≡ true) × (e ≡ true) × (f ≡ true) × (g ≡ true)
-all-seven a b c d e f g p =
+all_seven a b c d e f g p =
     let u = and_left (a && b && c && d && e && f) g p in
     let v = and_left (a && b && c && d && e) f u in
     let q = and_left (a && b && c && d) e v in
@@ -157,57 +157,57 @@ all-seven a b c d e f g p =
       and_right (a && b && c && d && e && f) g p,
     )
 
-same-equal : (t u : Tables) → same t u ≡ true → t ≡ u
+same_equal : (t u : Tables) → same t u ≡ true → t ≡ u
 unfolding same
-same-equal t u e =
-    let p = all-seven (equal t.next1 u.next1) (equal t.side1 u.side1) (equal t.next3 u.next3)
+same_equal t u e =
+    let p = all_seven (equal t.next1 u.next1) (equal t.side1 u.side1) (equal t.next3 u.next3)
     (equal t.other3 u.other3) (equal t.parent u.parent) (equal t.cells u.cells) (equal t.borders u.borders) e in
     λ i. record {
-      next1 = (equal-iff t.next1 u.next1).0 p.0 i;
-      side1 = (equal-iff t.side1 u.side1).0 p.1 i;
-      next3 = (equal-iff t.next3 u.next3).0 p.2 i;
-      other3 = (equal-iff t.other3 u.other3).0 p.3 i;
-      parent = (equal-iff t.parent u.parent).0 p.4 i;
-      cells = (equal-iff t.cells u.cells).0 p.5 i;
-      borders = (equal-iff t.borders u.borders).0 p.6 i;
+      next1 = (equal_iff t.next1 u.next1).0 p.0 i;
+      side1 = (equal_iff t.side1 u.side1).0 p.1 i;
+      next3 = (equal_iff t.next3 u.next3).0 p.2 i;
+      other3 = (equal_iff t.other3 u.other3).0 p.3 i;
+      parent = (equal_iff t.parent u.parent).0 p.4 i;
+      cells = (equal_iff t.cells u.cells).0 p.5 i;
+      borders = (equal_iff t.borders u.borders).0 p.6 i;
     }
 
-same-own : (t : Tables) → same t t ≡ true
+same_own : (t : Tables) → same t t ≡ true
 unfolding same
-same-own t =
-    let plain = and-true (equal-own t.next1) (equal-own t.side1) in
-    let links = and-true (and-true plain (equal-own t.next3)) (equal-own t.other3) in
-    and-true (and-true (and-true links (equal-own t.parent)) (equal-own t.cells)) (equal-own t.borders)
+same_own t =
+    let plain = and_true (equal_own t.next1) (equal_own t.side1) in
+    let links = and_true (and_true plain (equal_own t.next3)) (equal_own t.other3) in
+    and_true (and_true (and_true links (equal_own t.parent)) (equal_own t.cells)) (equal_own t.borders)
 
-pub same-iff : (t u : Tables) → (same t u ≡ true) ↔ (t ≡ u)
-same-iff t u = (same-equal t u, λ e. rw (← e) (same-own t))
+pub same_iff : (t u : Tables) → (same t u ≡ true) ↔ (t ≡ u)
+same_iff t u = (same_equal t u, λ e. rw (← e) (same_own t))
 
 -- The labels that are recovered are as many as the cells.
-length-recover : (w : ℕ) (t : List ℕ) (k i v : ℕ) → length (recover w t v i k) ≡ k
+length_recover : (w : ℕ) (t : List ℕ) (k i v : ℕ) → length (recover w t v i k) ≡ k
 unfolding recover
-length-recover w t zero i v = refl
-length-recover w t (suc k) i v = ap suc (length-recover w t k (suc i) _)
+length_recover w t zero i v = refl
+length_recover w t (suc k) i v = ap suc (length_recover w t k (suc i) _)
 
-pub length-recovered : (w h : ℕ) (t : List ℕ) → length (recovered w h t) ≡ w * h
+pub length_recovered : (w h : ℕ) (t : List ℕ) → length (recovered w h t) ≡ w * h
 unfolding recovered
-length-recovered w h t = length-recover w t (w * h) 0 mark
+length_recovered w h t = length_recover w t (w * h) 0 mark
 
 -- What passes the test is a drawing, and every drawing passes it.
 module _ (w h : ℕ) (t : Tables) where
-  pub is-drawing-drawn : isDrawing w h t ≡ true → Drawn w h t
-  unfolding isDrawing
-  is-drawing-drawn e =
+  pub is_drawing_drawn : is_drawing w h t ≡ true → Drawn w h t
+  unfolding is_drawing
+  is_drawing_drawn e =
       record {
         labels = recovered w h t.side1;
-        sized = length-recovered w h t.side1;
-        same = sym ((same-iff t (drawing w h (recovered w h t.side1))).0 e);
+        sized = length_recovered w h t.side1;
+        same = sym ((same_iff t (drawing w h (recovered w h t.side1))).0 e);
       }
 
-  pub drawn-is-drawing : slots w h ≤ mark → Drawn w h t → isDrawing w h t ≡ true
-  unfolding isDrawing
-  drawn-is-drawing fits d =
-      rw (← d.same, recovered-names w h d.labels fits, same-drawing w h d.labels)
-      (same-own (drawing w h d.labels))
+  pub drawn_is_drawing : slots w h ≤ mark → Drawn w h t → is_drawing w h t ≡ true
+  unfolding is_drawing
+  drawn_is_drawing fits d =
+      rw (← d.same, recovered_names w h d.labels fits, same_drawing w h d.labels)
+      (same_own (drawing w h d.labels))
 
-  pub is-drawing-right : slots w h ≤ mark → (isDrawing w h t ≡ true) ↔ Drawn w h t
-  is-drawing-right fits = (is-drawing-drawn, drawn-is-drawing fits)
+  pub is_drawing_right : slots w h ≤ mark → (is_drawing w h t ≡ true) ↔ Drawn w h t
+  is_drawing_right fits = (is_drawing_drawn, drawn_is_drawing fits)

@@ -19,21 +19,21 @@ use lib.ListN.{get_or}
 use borrow.Author.Tests.{eqb-true, eq-eqb, ne_eqb, ltb-true, not-true}
 use Rattle.laws.specs.Table.{table, some}
 use Rattle.laws.proofs.Test.{clash, and_left, and_right}
-use Rattle.laws.proofs.Table.{getD-table, some-none, none-some}
-use Rattle.laws.proofs.Least.{step, stay, back, then, linked-iff}
+use Rattle.laws.proofs.Table.{get_or_table, some_none, none_some}
+use Rattle.laws.proofs.Least.{step, stay, back, then, linked_iff}
 use Rattle.laws.proofs.Curve.{Joined, Tops}
 use Rattle.laws.proofs.Loop.{Above, Loops}
-use Rattle.laws.proofs.Anchor.{Anchored, anchored-loops}
+use Rattle.laws.proofs.Anchor.{Anchored, anchored_loops}
 use Rattle.point_darts.specs.Dart.{points, dart, point, direction, beside, far, turned, reversal}
 use Rattle.point_darts.specs.Point.{degree}
-use Rattle.point_darts.proofs.Darts.{four, point-dart, dart-own, direction-below, turned-below}
-use Rattle.point_darts.proofs.Darts.{point-reversal, reversal-dart, far-dart}
-use Rattle.point_darts.proofs.Reach.{line-point, line-far, line-west-in, line-north-in}
-use Rattle.point_rules.proofs.Turns.{some-has, has_some, degree-some}
+use Rattle.point_darts.proofs.Darts.{four, point_dart, dart_own, direction_below, turned_below}
+use Rattle.point_darts.proofs.Darts.{point_reversal, reversal_dart, far_dart}
+use Rattle.point_darts.proofs.Reach.{line_point, line_far, line_west_in, line_north_in}
+use Rattle.point_rules.proofs.Turns.{some_has, has_some, degree_some}
 use Rattle.paper.specs.Level.{border, side, mask, big, tops, anchor, kept3, among}
-use Rattle.paper_laws.proofs.Next.{Lines, mask_below, has-mask}
-use Rattle.paper_laws.proofs.Piece.{Inside, Line, west, north, Piece, piece-top, top-piece}
-use Rattle.paper_laws.proofs.Sheet.{lines-map, sheet, sheet-chart, sheet-few, border-lines}
+use Rattle.paper_laws.proofs.Next.{Lines, mask_below, has_mask}
+use Rattle.paper_laws.proofs.Piece.{Inside, Line, west, north, Piece, piece_top, top_piece}
+use Rattle.paper_laws.proofs.Sheet.{lines_map, sheet, sheet_chart, sheet_few, border_lines}
 
 abbrev pub top : ℕ → ℕ → (ℕ → Bool) → ℕ → ℕ
 top w h on p = get_or (tops w h on) p 0
@@ -41,112 +41,112 @@ top w h on p = get_or (tops w h on) p 0
 -- Points that have a line.
 module _ (on : ℕ → Bool) where
   -- a dart that is on is in the mask of its point
-  pub mask-some : (d p : ℕ) → on d ≡ true → point d ≡ p → mask on p ≢ 0
-  mask-some d p e q =
-      has_some (mask on p) (direction d) (direction-below d)
-      (has-mask on p (direction d) (direction-below d) ∙ rw (← q, dart-own d) e)
+  pub mask_some : (d p : ℕ) → on d ≡ true → point d ≡ p → mask on p ≢ 0
+  mask_some d p e q =
+      has_some (mask on p) (direction d) (direction_below d)
+      (has_mask on p (direction d) (direction_below d) ∙ rw (← q, dart_own d) e)
 
-  pub some-mask : (p : ℕ) → mask on p ≢ 0 → (d : ℕ) × (on d ≡ true) × (point d ≡ p)
-  some-mask p z =
-      let (k, b, e) = some-has (mask on p) (mask_below on p) z in
-      (dart p k, sym (has-mask on p k b) ∙ e, point-dart p k b)
+  pub some_mask : (p : ℕ) → mask on p ≢ 0 → (d : ℕ) × (on d ≡ true) × (point d ≡ p)
+  some_mask p z =
+      let (k, b, e) = some_has (mask on p) (mask_below on p) z in
+      (dart p k, sym (has_mask on p k b) ∙ e, point_dart p k b)
 
-  pub big-some : (p : ℕ) → big on p ≡ true → mask on p ≢ 0
+  pub big_some : (p : ℕ) → big on p ≡ true → mask on p ≢ 0
   unfolding big
-  big-some p e =
+  big_some p e =
       let l : 2 < degree (mask on p) = ltb-true 2 (degree (mask on p)) e in
-      degree-some (mask on p) (omega arith)
+      degree_some (mask on p) (omega arith)
 
 -- Lines that come with both their darts.
 module _ (w h : ℕ) (on : ℕ → Bool) (l : Lines w h on) where
-  pub lines-inside : Inside w h on
-  lines-inside =
+  pub lines_inside : Inside w h on
+  lines_inside =
       record {
-        west-in = λ p _ e. line-west-in w h p (l.lined (dart p 2) e);
-        north-in = λ p _ e. line-north-in w h p (l.lined (dart p 3) e);
+        west_in = λ p _ e. line_west_in w h p (l.lined (dart p 2) e);
+        north_in = λ p _ e. line_north_in w h p (l.lined (dart p 3) e);
       }
 
-  pub dart-point : (d : ℕ) → on d ≡ true → point d < points w h
-  dart-point d e = line-point w h d (l.lined d e)
+  pub dart_point : (d : ℕ) → on d ≡ true → point d < points w h
+  dart_point d e = line_point w h d (l.lined d e)
 
-  pub mask-point : (p : ℕ) → mask on p ≢ 0 → p < points w h
-  mask-point p z = let (d, e, q) = some-mask on p z in rw q at (dart-point d e)
+  pub mask_point : (p : ℕ) → mask on p ≢ 0 → p < points w h
+  mask_point p z = let (d, e, q) = some_mask on p z in rw q at (dart_point d e)
 
   -- the reversal of a dart at p in direction k
   back_on : (p k : ℕ) → k < 4 → on (dart p k) ≡ true → on (dart (beside w p k) (turned k 2)) ≡ true
-  back_on p k b e = rw (reversal-dart w p k b) at (l.back (dart p k) e)
+  back_on p k b e = rw (reversal_dart w p k b) at (l.back (dart p k) e)
 
-  back-point : (p k : ℕ) → k < 4 → on (dart p k) ≡ true → beside w p k < points w h
-  back-point p k b e = rw (far-dart w p k b) at (line-far w h (dart p k) (l.lined (dart p k) e))
+  back_point : (p k : ℕ) → k < 4 → on (dart p k) ≡ true → beside w p k < points w h
+  back_point p k b e = rw (far_dart w p k b) at (line_far w h (dart p k) (l.lined (dart p k) e))
 
   -- a line that leads back to p is that of a dart
-  line-dart : (p q : ℕ) → Line w h on p q → (k : ℕ) × (k < 4) × (on (dart q k) ≡ true) × (beside w q k ≡ p)
+  line_dart : (p q : ℕ) → Line w h on p q → (k : ℕ) × (k < 4) × (on (dart q k) ≡ true) × (beside w q k ≡ p)
   unfolding beside
-  line-dart p q (west b e f) = (2, lit< tt, e, omega arith)
-  line-dart p q (north b e f) = (3, lit< tt, e, omega arith)
+  line_dart p q (west b e f) = (2, lit< tt, e, omega arith)
+  line_dart p q (north b e f) = (3, lit< tt, e, omega arith)
 
   -- a dart leads from point to point of a piece
-  beside-piece : (p k : ℕ) → k < 4 → on (dart p k) ≡ true → Piece w h on p (beside w p k)
+  beside_piece : (p k : ℕ) → k < 4 → on (dart p k) ≡ true → Piece w h on p (beside w p k)
   unfolding beside turned
-  beside-piece p =
+  beside_piece p =
       let here : (k : ℕ) → k < 4 → on (dart p k) ≡ true → p < points w h =
-      λ k b e. rw (point-dart p k b) at (dart-point (dart p k) e) in
+      λ k b e. rw (point_dart p k b) at (dart_point (dart p k) e) in
       four (λ k. on (dart p k) ≡ true → Piece w h on p (beside w p k))
-      (λ e. step (west (back-point p 0 (lit< tt) e) (back_on p 0 (lit< tt) e) refl))
-      (λ e. step (north (back-point p 1 (lit< tt) e) (back_on p 1 (lit< tt) e) refl))
+      (λ e. step (west (back_point p 0 (lit< tt) e) (back_on p 0 (lit< tt) e) refl))
+      (λ e. step (north (back_point p 1 (lit< tt) e) (back_on p 1 (lit< tt) e) refl))
       (λ e.
       let b : p < points w h = here 2 (lit< tt) e in
-      let i : 0 < p = lines-inside.west-in p b e in
+      let i : 0 < p = lines_inside.west_in p b e in
       back (step (west b e (omega arith))))
       (λ e.
       let b : p < points w h = here 3 (lit< tt) e in
-      let i : w + 1 ≤ p = lines-inside.north-in p b e in
+      let i : w + 1 ≤ p = lines_inside.north_in p b e in
       back (step (north b e (omega arith))))
 
-  pub dart-piece : (d : ℕ) → on d ≡ true → Piece w h on (point d) (far w d)
+  pub dart_piece : (d : ℕ) → on d ≡ true → Piece w h on (point d) (far w d)
   unfolding far
-  dart-piece d e = beside-piece (point d) (direction d) (direction-below d) (rw (dart-own d) e)
+  dart_piece d e = beside_piece (point d) (direction d) (direction_below d) (rw (dart_own d) e)
 
   -- both ends of a line, and so all points of a piece or none, have lines
-  line-masks : (p q : ℕ) → Line w h on p q → (mask on p ≢ 0) × (mask on q ≢ 0)
-  line-masks p q r =
-      let (k, b, e, f) = line-dart p q r in (
-        mask-some on (dart (beside w q k) (turned k 2)) p (back_on q k b e)
-            (point-dart (beside w q k) (turned k 2) (turned-below k 2) ∙ f),
-        mask-some on (dart q k) q e (point-dart q k b),
+  line_masks : (p q : ℕ) → Line w h on p q → (mask on p ≢ 0) × (mask on q ≢ 0)
+  line_masks p q r =
+      let (k, b, e, f) = line_dart p q r in (
+        mask_some on (dart (beside w q k) (turned k 2)) p (back_on q k b e)
+            (point_dart (beside w q k) (turned k 2) (turned_below k 2) ∙ f),
+        mask_some on (dart q k) q e (point_dart q k b),
       )
 
-  pub piece-masks : {p q : ℕ} → Piece w h on p q → mask on p ≢ 0 → mask on q ≢ 0
-  piece-masks r = (linked-iff (λ p. mask on p ≢ 0) line-masks r).0
+  pub piece_masks : {p q : ℕ} → Piece w h on p q → mask on p ≢ 0 → mask on q ≢ 0
+  piece_masks r = (linked_iff (λ p. mask on p ≢ 0) line_masks r).0
 
   -- the lines as a map: pieces are its joined points
   module _ (side : ℕ → ℕ) where
-    line-joined : (p q : ℕ) → Line w h on p q → Joined (lines-map w h on side) p q
-    unfolding lines-map
-    line-joined p q r =
-        let (k, b, e, f) = line-dart p q r in
+    line_joined : (p q : ℕ) → Line w h on p q → Joined (lines_map w h on side) p q
+    unfolding lines_map
+    line_joined p q r =
+        let (k, b, e, f) = line_dart p q r in
         let d : ℕ = dart q k in
-        let j : Joined (lines-map w h on side) (point d) (point (reversal w d)) = Joined.line d e in
-        Joined.back (rw (point-dart q k b, point-reversal w d, far-dart w q k b, f) at j)
+        let j : Joined (lines_map w h on side) (point d) (point (reversal w d)) = Joined.line d e in
+        Joined.back (rw (point_dart q k b, point_reversal w d, far_dart w q k b, f) at j)
 
-    pub piece-joined : {p q : ℕ} → Piece w h on p q → Joined (lines-map w h on side) p q
-    piece-joined stay = Joined.alone
-    piece-joined (step {i = p} {j = q} r) = line-joined p q r
-    piece-joined (back r) = Joined.back (piece-joined r)
-    piece-joined (then r s) = Joined.onward (piece-joined r) (piece-joined s)
+    pub piece_joined : {p q : ℕ} → Piece w h on p q → Joined (lines_map w h on side) p q
+    piece_joined stay = Joined.alone
+    piece_joined (step {i = p} {j = q} r) = line_joined p q r
+    piece_joined (back r) = Joined.back (piece_joined r)
+    piece_joined (then r s) = Joined.onward (piece_joined r) (piece_joined s)
 
-    pub lines-tops : Tops (lines-map w h on side) (top w h on)
-    unfolding lines-map
-    lines-tops =
+    pub lines_tops : Tops (lines_map w h on side) (top w h on)
+    unfolding lines_map
+    lines_tops =
         record {
-          along = λ d e. rw (point-reversal w d) (piece-top w h on (dart-piece d e));
-          joined = λ d e. piece-joined (top-piece w h on lines-inside (point d) (dart-point d e));
+          along = λ d e. rw (point_reversal w d) (piece_top w h on (dart_piece d e));
+          joined = λ d e. piece_joined (top_piece w h on lines_inside (point d) (dart_point d e));
         }
 
 -- a test that fails where another passes
-and-not : (a b : Bool) → (a ≡ true → b ≡ false) → (a && b) ≡ false
-and-not true b f = f refl
-and-not false b f = refl
+and_not : (a b : Bool) → (a ≡ true → b ≡ false) → (a && b) ≡ false
+and_not true b f = f refl
+and_not false b f = refl
 
 -- The anchors of a table t of least points: a point p that has a line, stands for itself, and for no big point.
 module _ (w h : ℕ) (on : ℕ → Bool) (t : List ℕ) (p : ℕ) where
@@ -156,78 +156,78 @@ module _ (w h : ℕ) (on : ℕ → Bool) (t : List ℕ) (p : ℕ) where
   abbrev itself : Bool
   itself = eqb (get_or t p 0) p
 
-  abbrev for-big : ℕ → Bool
-  for-big q = eqb (get_or t q 0) p && big on q
+  abbrev for_big : ℕ → Bool
+  for_big q = eqb (get_or t q 0) p && big on q
 
   abbrev low : Bool
-  low = not (some (points w h) for-big)
+  low = not (some (points w h) for_big)
 
-  anchor-own : anchor w h on t p ≡ true → get_or t p 0 ≡ p
+  anchor_own : anchor w h on t p ≡ true → get_or t p 0 ≡ p
   unfolding anchor
-  anchor-own e = eqb-true (get_or t p 0) p (and_right lined itself (and_left (lined && itself) low e))
+  anchor_own e = eqb-true (get_or t p 0) p (and_right lined itself (and_left (lined && itself) low e))
 
-  anchor-free : anchor w h on t p ≡ true → (q : ℕ) → q < points w h → get_or t q 0 ≡ p → big on q ≡ false
+  anchor_free : anchor w h on t p ≡ true → (q : ℕ) → q < points w h → get_or t q 0 ≡ p → big on q ≡ false
   unfolding anchor
-  anchor-free e q b f =
-      let none = not-true (some (points w h) for-big) (and_right (lined && itself) low e) in
-      rw (eq-eqb (get_or t q 0) p f) at (some-none for-big (points w h) none q b)
+  anchor_free e q b f =
+      let none = not-true (some (points w h) for_big) (and_right (lined && itself) low e) in
+      rw (eq-eqb (get_or t q 0) p f) at (some_none for_big (points w h) none q b)
 
-  anchor-is : mask on p ≢ 0 → get_or t p 0 ≡ p
+  anchor_is : mask on p ≢ 0 → get_or t p 0 ≡ p
       → ((q : ℕ) → q < points w h → get_or t q 0 ≡ p → big on q ≡ false) → anchor w h on t p ≡ true
   unfolding anchor
-  anchor-is z e f =
+  anchor_is z e f =
       rw (ne_eqb (mask on p) 0 z, eq-eqb (get_or t p 0) p e)
-      (ap not (none-some for-big (points w h)
-      (λ q b. and-not (eqb (get_or t q 0) p) (big on q) (λ g. f q b (eqb-true (get_or t q 0) p g)))))
+      (ap not (none_some for_big (points w h)
+      (λ q b. and_not (eqb (get_or t q 0) p) (big on q) (λ g. f q b (eqb-true (get_or t q 0) p g)))))
 
 abbrev pub keeping : ℕ → ℕ → (ℕ → Bool) → (ℕ → Bool) → List Bool
 keeping w h on f = table (points w h) (λ p. big on p || f p)
 
-or-none : (a b : Bool) → (a || b) ≡ false → (a ≡ false) × (b ≡ false)
-or-none true b e = clash refl e
-or-none false b e = (refl, e)
+or_none : (a b : Bool) → (a || b) ≡ false → (a ≡ false) × (b ≡ false)
+or_none true b e = clash refl e
+or_none false b e = (refl, e)
 
 module _ (w h : ℕ) (on f : ℕ → Bool) where
   keeping_at : (p : ℕ) → p < points w h → among (keeping w h on f) p ≡ (big on p || f p)
   unfolding among
-  keeping_at p b = getD-table (points w h) (λ p. big on p || f p) p false b
+  keeping_at p b = get_or_table (points w h) (λ p. big on p || f p) p false b
 
   -- a kept point is big or passes the test, one that is not kept neither
-  pub keeping-small : (p : ℕ) → p < points w h → among (keeping w h on f) p ≡ true → big on p ≡ false → f p ≡ true
-  keeping-small p b e g = rw (keeping_at p b, g) at e
+  pub keeping_small : (p : ℕ) → p < points w h → among (keeping w h on f) p ≡ true → big on p ≡ false → f p ≡ true
+  keeping_small p b e g = rw (keeping_at p b, g) at e
 
-  pub keeping-test : (p : ℕ) → p < points w h → f p ≡ true → among (keeping w h on f) p ≡ true
-  keeping-test p b e = rw (keeping_at p b, e) (or-true (big on p))
+  pub keeping_test : (p : ℕ) → p < points w h → f p ≡ true → among (keeping w h on f) p ≡ true
+  keeping_test p b e = rw (keeping_at p b, e) (or-true (big on p))
 
   pub keeping_none : (p : ℕ) → p < points w h → among (keeping w h on f) p ≡ false → (big on p ≡ false) × (f p ≡ false)
-  keeping_none p b e = or-none (big on p) (f p) (rw (keeping_at p b) at e)
+  keeping_none p b e = or_none (big on p) (f p) (rw (keeping_at p b) at e)
 
-  pub keeping-above : Lines w h on → Above (big on) (among (keeping w h on f))
-  keeping-above l = record { above = λ p e. rw (keeping_at p (mask-point w h on l p (big-some on p e)), e) }
+  pub keeping_above : Lines w h on → Above (big on) (among (keeping w h on f))
+  keeping_above l = record { above = λ p e. rw (keeping_at p (mask_point w h on l p (big_some on p e)), e) }
 
 module _ (w h : ℕ) (on : ℕ → Bool) (l : Lines w h on) where
-  pub lines-anchored : (side : ℕ → ℕ) → Anchored (lines-map w h on side) (big on) (top w h on) (among (kept3 w h on))
-  unfolding lines-map kept3
-  lines-anchored side =
+  pub lines_anchored : (side : ℕ → ℕ) → Anchored (lines_map w h on side) (big on) (top w h on) (among (kept3 w h on))
+  unfolding lines_map kept3
+  lines_anchored side =
       let f : ℕ → Bool = anchor w h on (tops w h on) in
-      let at : (d : ℕ) → on d ≡ true → point d < points w h = dart-point w h on l in
+      let at : (d : ℕ) → on d ≡ true → point d < points w h = dart_point w h on l in
       record {
-        high = keeping-above w h on f l;
-        own = λ d e k g. anchor-own w h on (tops w h on) (point d) (keeping-small w h on f (point d) (at d e) k g);
+        high = keeping_above w h on f l;
+        own = λ d e k g. anchor_own w h on (tops w h on) (point d) (keeping_small w h on f (point d) (at d e) k g);
         free = λ d e i j k g.
-            anchor-free w h on (tops w h on) (point d) (keeping-small w h on f (point d) (at d i) k g) (point e) (at e j);
+            anchor_free w h on (tops w h on) (point d) (keeping_small w h on f (point d) (at d i) k g) (point e) (at e j);
         kept = λ d e q g.
-            keeping-test w h on f (point d) (at d e)
-            (anchor-is w h on (tops w h on) (point d) (mask-some on d (point d) e refl) q (λ p b r. free-at p d r g));
+            keeping_test w h on f (point d) (at d e)
+            (anchor_is w h on (tops w h on) (point d) (mask_some on d (point d) e refl) q (λ p b r. free_at p d r g));
       }
     where
-      free-at : (p d : ℕ) → top w h on p ≡ point d
+      free_at : (p d : ℕ) → top w h on p ≡ point d
           → ((e : ℕ) → on e ≡ true → top w h on (point e) ≡ point d → big on (point e) ≡ false) → big on p ≡ false
-      free-at p d g f = go (big on p) refl
+      free_at p d g f = go (big on p) refl
         where
           go : (b : Bool) → big on p ≡ b → big on p ≡ false
           go true b =
-              let (e, i, q) = some-mask on p (big-some on p b) in
+              let (e, i, q) = some_mask on p (big_some on p b) in
               rw q at (f e i (rw q g))
           go false b = b
 
@@ -236,17 +236,17 @@ module _ (w h : ℕ) (n : List ℕ) where
   abbrev on : ℕ → Bool
   on = border w h n
 
-  pub sheet-inside : Inside w h (border w h n)
-  sheet-inside = lines-inside w h on (border-lines w h n)
+  pub sheet_inside : Inside w h (border w h n)
+  sheet_inside = lines_inside w h on (border_lines w h n)
 
-  pub sheet-tops : Tops (sheet w h n) (top w h (border w h n))
+  pub sheet_tops : Tops (sheet w h n) (top w h (border w h n))
   unfolding sheet
-  sheet-tops = lines-tops w h on (border-lines w h n) (side w h n)
+  sheet_tops = lines_tops w h on (border_lines w h n) (side w h n)
 
-  pub sheet-anchored :
+  pub sheet_anchored :
       Anchored (sheet w h n) (big (border w h n)) (top w h (border w h n)) (among (kept3 w h (border w h n)))
   unfolding sheet
-  sheet-anchored = lines-anchored w h on (border-lines w h n) (side w h n)
+  sheet_anchored = lines_anchored w h on (border_lines w h n) (side w h n)
 
-  pub sheet-loops : Loops (sheet w h n) (big (border w h n)) (among (kept3 w h (border w h n)))
-  sheet-loops = anchored-loops (sheet-chart w h n) (sheet-few w h n) sheet-tops sheet-anchored
+  pub sheet_loops : Loops (sheet w h n) (big (border w h n)) (among (kept3 w h (border w h n)))
+  sheet_loops = anchored_loops (sheet_chart w h n) (sheet_few w h n) sheet_tops sheet_anchored

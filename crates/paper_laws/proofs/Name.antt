@@ -23,27 +23,27 @@ use Rattle.laws.specs.Least.{least, ties, tie, lower}
 use Rattle.laws.specs.Table.{table, listed}
 use Rattle.laws.proofs.Table.{get_d_map}
 use Rattle.laws.proofs.Least.{
-  lower-cases,
-  lower-left,
-  lower-right,
-  getD-lower,
+  lower_cases,
+  lower_left,
+  lower_right,
+  get_or_lower,
   Linked,
   step,
   back,
   then,
-  linked-same,
-  linked-map,
-  linked-iff,
-  linked-eq,
+  linked_same,
+  linked_map,
+  linked_iff,
+  linked_eq,
   Near,
-  by-b,
-  by-c,
+  by_b,
+  by_c,
   Joined,
-  length-least,
+  length_least,
   Roots,
-  roots-same,
-  roots-unique,
-  least-roots,
+  roots_same,
+  roots_unique,
+  least_roots,
 }
 use Rattle.paper.specs.Name.{label, west, north, names}
 
@@ -57,13 +57,13 @@ cell_below w h x y p q = omega (arith, mul-le-mul_right w q, mul_comm w h)
 
 -- Side-by-side cells by column and row.
 module _ (w h x y : ℕ) where
-  pub beside-row : suc x < w → y < h → Beside w h (y * w + x) (y * w + suc x)
-  beside-row p q =
+  pub beside_row : suc x < w → y < h → Beside w h (y * w + x) (y * w + suc x)
+  beside_row p q =
       let e : (y * w + suc x) % w ≡ suc x = mul-add-mod_self_right y w (suc x) ∙ mod-eq_of_lt p in
       row (cell_below w h (suc x) y p q) (omega arith) (omega arith)
 
-  pub beside-column : x < w → suc y < h → Beside w h (y * w + x) (suc y * w + x)
-  beside-column p q = column (cell_below w h x (suc y) p q) (omega arith)
+  pub beside_column : x < w → suc y < h → Beside w h (y * w + x) (suc y * w + x)
+  beside_column p q = column (cell_below w h x (suc y) p q) (omega arith)
 
 pub record Kin (w h : ℕ) (s : List ℕ) (i j : ℕ) : Type 0 where
   pub beside : Beside w h i j
@@ -74,94 +74,94 @@ Chain w h s = Linked (Kin w h s)
 
 -- A rule that moves to k where the test t passes and the labels x and y are equal, and else stays at i.
 module _ (x y k i : ℕ) where
-  rule-test : (t u : Bool) → eqb x y ≡ u
+  rule_test : (t u : Bool) → eqb x y ≡ u
       → ((t ≡ true) × (x ≡ y) × (cond (t && eqb x y) k i ≡ k)) ⊎ (cond (t && eqb x y) k i ≡ i)
-  rule-test true true e = inl (refl, eqb-true x y e, rw e)
-  rule-test true false e = inr (rw e)
-  rule-test false u e = inr refl
+  rule_test true true e = inl (refl, eqb-true x y e, rw e)
+  rule_test true false e = inr (rw e)
+  rule_test false u e = inr refl
 
-  rule-cases : (t : Bool) → ((t ≡ true) × (x ≡ y) × (cond (t && eqb x y) k i ≡ k)) ⊎ (cond (t && eqb x y) k i ≡ i)
-  rule-cases t = rule-test t (eqb x y) refl
+  rule_cases : (t : Bool) → ((t ≡ true) × (x ≡ y) × (cond (t && eqb x y) k i ≡ k)) ⊎ (cond (t && eqb x y) k i ≡ i)
+  rule_cases t = rule_test t (eqb x y) refl
 
-  rule-moves : (t : Bool) → t ≡ true → x ≡ y → cond (t && eqb x y) k i ≡ k
-  rule-moves t p q = rw (p, eq-eqb x y q)
+  rule_moves : (t : Bool) → t ≡ true → x ≡ y → cond (t && eqb x y) k i ≡ k
+  rule_moves t p q = rw (p, eq-eqb x y q)
 
-  rule-le : (t : Bool) → k ≤ i → cond (t && eqb x y) k i ≤ i
-  rule-le t h = ⊎_elim (λ p. omega arith) (λ e. omega arith) (rule-cases t)
+  rule_le : (t : Bool) → k ≤ i → cond (t && eqb x y) k i ≤ i
+  rule_le t h = ⊎_elim (λ p. omega arith) (λ e. omega arith) (rule_cases t)
 
 abbrev firsts : ℕ → ℕ → List ℕ → List ℕ
 firsts w h s = least (w * h) (west w s) (north w s)
 
 -- The neighbours of a cell, by the rules west and north, are the cells beside it of equal label.
 module _ (w h : ℕ) (s : List ℕ) where
-  west-le : (i : ℕ) → i < w * h → west w s i ≤ i
+  west_le : (i : ℕ) → i < w * h → west w s i ≤ i
   unfolding west
-  west-le i b = rule-le (label s i) (label s (i - 1)) (i - 1) i (ltb 0 (i % w)) (omega arith)
+  west_le i b = rule_le (label s i) (label s (i - 1)) (i - 1) i (ltb 0 (i % w)) (omega arith)
 
-  north-le : (i : ℕ) → i < w * h → north w s i ≤ i
+  north_le : (i : ℕ) → i < w * h → north w s i ≤ i
   unfolding north
-  north-le i b = rule-le (label s i) (label s (i - w)) (i - w) i (leb w i) (omega arith)
+  north_le i b = rule_le (label s i) (label s (i - w)) (i - w) i (leb w i) (omega arith)
 
-  row-chain : (i : ℕ) → i < w * h → 0 < i % w → label s i ≡ label s (i - 1) → Chain w h s i (i - 1)
-  row-chain i b p e =
+  row_chain : (i : ℕ) → i < w * h → 0 < i % w → label s i ≡ label s (i - 1) → Chain w h s i (i - 1)
+  row_chain i b p e =
       let f : i ≡ i - 1 + 1 = omega (arith, mod-le i w) in
       back (step (record { beside = row b p f; alike = sym e }))
 
-  column-chain : (i : ℕ) → i < w * h → w ≤ i → label s i ≡ label s (i - w) → Chain w h s i (i - w)
-  column-chain i b p e =
+  column_chain : (i : ℕ) → i < w * h → w ≤ i → label s i ≡ label s (i - w) → Chain w h s i (i - w)
+  column_chain i b p e =
       let f : i ≡ i - w + w = omega arith in
       back (step (record { beside = column b f; alike = sym e }))
 
-  west-chain : (i : ℕ) → i < w * h → Chain w h s i (west w s i)
+  west_chain : (i : ℕ) → i < w * h → Chain w h s i (west w s i)
   unfolding west
-  west-chain i b =
-      ⊎_elim (λ p. rw p.2 (row-chain i b (ltb-true 0 (i % w) p.0) p.1)) (λ e. linked-eq (sym e))
-      (rule-cases (label s i) (label s (i - 1)) (i - 1) i (ltb 0 (i % w)))
+  west_chain i b =
+      ⊎_elim (λ p. rw p.2 (row_chain i b (ltb-true 0 (i % w) p.0) p.1)) (λ e. linked_eq (sym e))
+      (rule_cases (label s i) (label s (i - 1)) (i - 1) i (ltb 0 (i % w)))
 
-  north-chain : (i : ℕ) → i < w * h → Chain w h s i (north w s i)
+  north_chain : (i : ℕ) → i < w * h → Chain w h s i (north w s i)
   unfolding north
-  north-chain i b =
-      ⊎_elim (λ p. rw p.2 (column-chain i b (leb-true w i p.0) p.1)) (λ e. linked-eq (sym e))
-      (rule-cases (label s i) (label s (i - w)) (i - w) i (leb w i))
+  north_chain i b =
+      ⊎_elim (λ p. rw p.2 (column_chain i b (leb-true w i p.0) p.1)) (λ e. linked_eq (sym e))
+      (rule_cases (label s i) (label s (i - w)) (i - w) i (leb w i))
 
-  near-chain : (i j : ℕ) → Near (west w s) (north w s) (w * h) i j → Chain w h s i j
-  near-chain i j (by-b b e) = rw e (west-chain i b)
-  near-chain i j (by-c b e) = rw e (north-chain i b)
+  near_chain : (i j : ℕ) → Near (west w s) (north w s) (w * h) i j → Chain w h s i j
+  near_chain i j (by_b b e) = rw e (west_chain i b)
+  near_chain i j (by_c b e) = rw e (north_chain i b)
 
-  beside-joined : (i j : ℕ) → Beside w h i j → label s i ≡ label s j → Joined (west w s) (north w s) (w * h) i j
+  beside_joined : (i j : ℕ) → Beside w h i j → label s i ≡ label s j → Joined (west w s) (north w s) (w * h) i j
   unfolding west north
-  beside-joined i j (row b p e) q =
+  beside_joined i j (row b p e) q =
       let k : i ≡ j - 1 = omega arith in
       let t = lt-ltb 0 (j % w) p in
-      let m = rule-moves (label s j) (label s (j - 1)) (j - 1) j (ltb 0 (j % w)) t (rw (← k) (sym q)) in
-      back (step (by-b b (k ∙ sym m)))
-  beside-joined i j (column b e) q =
+      let m = rule_moves (label s j) (label s (j - 1)) (j - 1) j (ltb 0 (j % w)) t (rw (← k) (sym q)) in
+      back (step (by_b b (k ∙ sym m)))
+  beside_joined i j (column b e) q =
       let k : i ≡ j - w = omega arith in
       let t = le-leb w j (omega arith) in
-      let m = rule-moves (label s j) (label s (j - w)) (j - w) j (leb w j) t (rw (← k) (sym q)) in
-      back (step (by-c b (k ∙ sym m)))
+      let m = rule_moves (label s j) (label s (j - w)) (j - w) j (leb w j) t (rw (← k) (sym q)) in
+      back (step (by_c b (k ∙ sym m)))
 
-  joined-chain : {i j : ℕ} → Joined (west w s) (north w s) (w * h) i j → Chain w h s i j
-  joined-chain = linked-map near-chain
+  joined_chain : {i j : ℕ} → Joined (west w s) (north w s) (w * h) i j → Chain w h s i j
+  joined_chain = linked_map near_chain
 
-  chain-joined : {i j : ℕ} → Chain w h s i j → Joined (west w s) (north w s) (w * h) i j
-  chain-joined = linked-map (λ i j k. beside-joined i j k.beside k.alike)
+  chain_joined : {i j : ℕ} → Chain w h s i j → Joined (west w s) (north w s) (w * h) i j
+  chain_joined = linked_map (λ i j k. beside_joined i j k.beside k.alike)
 
-  names-roots : Roots (west w s) (north w s) (w * h) (λ i. get_or (firsts w h s) i 0)
-  names-roots = least-roots (w * h) (west w s) (north w s) west-le north-le
+  names_roots : Roots (west w s) (north w s) (w * h) (λ i. get_or (firsts w h s) i 0)
+  names_roots = least_roots (w * h) (west w s) (north w s) west_le north_le
 
-  name-suc : (i : ℕ) → i < w * h → get_or (names w h s) i 0 ≡ suc (get_or (firsts w h s) i 0)
+  name_suc : (i : ℕ) → i < w * h → get_or (names w h s) i 0 ≡ suc (get_or (firsts w h s) i 0)
   unfolding names
-  name-suc i b = get_d_map suc (firsts w h s) i 0 0 (rw length-least b)
+  name_suc i b = get_d_map suc (firsts w h s) i 0 0 (rw length_least b)
 
-  pub length-names : length (names w h s) ≡ w * h
+  pub length_names : length (names w h s) ≡ w * h
   unfolding names
-  length-names = length-map (firsts w h s) suc ∙ length-least (w * h) (west w s) (north w s)
+  length_names = length-map (firsts w h s) suc ∙ length_least (w * h) (west w s) (north w s)
 
 -- a cell beside another is on the sheet, and so is the other
-pub beside-below : (w h i j : ℕ) → Beside w h i j → (i < w * h) × (j < w * h)
-beside-below w h i j (row b p e) = (omega arith, b)
-beside-below w h i j (column b e) = (omega arith, b)
+pub beside_below : (w h i j : ℕ) → Beside w h i j → (i < w * h) × (j < w * h)
+beside_below w h i j (row b p e) = (omega arith, b)
+beside_below w h i j (column b e) = (omega arith, b)
 
 pub record First (w h : ℕ) (s : List ℕ) (i v : ℕ) : Type 0 where
   pub cell : ℕ
@@ -175,109 +175,109 @@ pub record Named (w h : ℕ) (s t : List ℕ) : Type 0 where
   pub first : (i : ℕ) → i < w * h → First w h s i (get_or t i 0)
 
 module _ (w h : ℕ) (s : List ℕ) where
-  kin-name : (i j : ℕ) → Kin w h s i j → get_or (names w h s) i 0 ≡ get_or (names w h s) j 0
-  kin-name i j k =
-      let b = beside-below w h i j k.beside in
-      let e = roots-same (names-roots w h s) (beside-joined w h s i j k.beside k.alike) in
-      cc (name-suc w h s i b.0, name-suc w h s j b.1)
+  kin_name : (i j : ℕ) → Kin w h s i j → get_or (names w h s) i 0 ≡ get_or (names w h s) j 0
+  kin_name i j k =
+      let b = beside_below w h i j k.beside in
+      let e = roots_same (names_roots w h s) (beside_joined w h s i j k.beside k.alike) in
+      cc (name_suc w h s i b.0, name_suc w h s j b.1)
 
   -- the names are names
-  pub names-named : Named w h s (names w h s)
-  names-named =
+  pub names_named : Named w h s (names w h s)
+  names_named =
       record {
-        sized = length-names w h s;
-        alike = kin-name;
+        sized = length_names w h s;
+        alike = kin_name;
         first = λ i b.
-            let r = names-roots w h s in
+            let r = names_roots w h s in
             record {
               cell = get_or (firsts w h s) i 0;
-              named = name-suc w h s i b;
+              named = name_suc w h s i b;
               before = r.low i b;
-              chain = joined-chain w h s (r.joined i b);
+              chain = joined_chain w h s (r.joined i b);
             };
       }
 
   -- cells of one region bear one name
-  pub chain-name : {i j : ℕ} → Chain w h s i j → get_or (names w h s) i 0 ≡ get_or (names w h s) j 0
-  chain-name = linked-same (λ i. get_or (names w h s) i 0) kin-name
+  pub chain_name : {i j : ℕ} → Chain w h s i j → get_or (names w h s) i 0 ≡ get_or (names w h s) j 0
+  chain_name = linked_same (λ i. get_or (names w h s) i 0) kin_name
 
   -- cells that bear one name are of one region
-  pub name-chain : (i j : ℕ) → i < w * h → j < w * h → get_or (names w h s) i 0 ≡ get_or (names w h s) j 0 → Chain w h s i j
-  name-chain i j b d e =
-      let p = names-named.first i b in
-      let q = names-named.first j d in
+  pub name_chain : (i j : ℕ) → i < w * h → j < w * h → get_or (names w h s) i 0 ≡ get_or (names w h s) j 0 → Chain w h s i j
+  name_chain i j b d e =
+      let p = names_named.first i b in
+      let q = names_named.first j d in
       let f : p.cell ≡ q.cell = cc (p.named, q.named) in
       then (rw f at p.chain) (back q.chain)
 
   pub same_name : (i j : ℕ) → i < w * h → j < w * h
       → (get_or (names w h s) i 0 ≡ get_or (names w h s) j 0) ↔ Chain w h s i j
-  same_name i j b d = (name-chain i j b d, chain-name)
+  same_name i j b d = (name_chain i j b d, chain_name)
 
   -- a name is at least 1 and at most the number of the cell, counted from 1
-  pub name-range : (i : ℕ) → i < w * h → (1 ≤ get_or (names w h s) i 0) × (get_or (names w h s) i 0 ≤ suc i)
-  name-range i b = let p = names-named.first i b in omega arith
+  pub name_range : (i : ℕ) → i < w * h → (1 ≤ get_or (names w h s) i 0) × (get_or (names w h s) i 0 ≤ suc i)
+  name_range i b = let p = names_named.first i b in omega arith
 
-  pub name-le : (i : ℕ) → i < w * h → get_or (names w h s) i 0 ≤ w * h
-  name-le i b = let r = name-range i b in omega arith
+  pub name_le : (i : ℕ) → i < w * h → get_or (names w h s) i 0 ≤ w * h
+  name_le i b = let r = name_range i b in omega arith
 
   -- the cell that a name tells is of the region
-  pub name-cell : (i : ℕ) → i < w * h → Chain w h s i (get_or (names w h s) i 0 - 1)
-  name-cell i b =
-      let p = names-named.first i b in
+  pub name_cell : (i : ℕ) → i < w * h → Chain w h s i (get_or (names w h s) i 0 - 1)
+  name_cell i b =
+      let p = names_named.first i b in
       let e : get_or (names w h s) i 0 - 1 ≡ p.cell = omega arith in
       rw e p.chain
 
   -- and bears the name
-  pub name-own : (i : ℕ) → i < w * h → get_or (names w h s) (get_or (names w h s) i 0 - 1) 0 ≡ get_or (names w h s) i 0
-  name-own i b = sym (chain-name (name-cell i b))
+  pub name_own : (i : ℕ) → i < w * h → get_or (names w h s) (get_or (names w h s) i 0 - 1) 0 ≡ get_or (names w h s) i 0
+  name_own i b = sym (chain_name (name_cell i b))
 
   -- no cell of the region is earlier
-  pub name-least : (i j : ℕ) → j < w * h → Chain w h s i j → get_or (names w h s) i 0 ≤ suc j
-  name-least i j b l = rw (chain-name l) (name-range j b).1
+  pub name_least : (i j : ℕ) → j < w * h → Chain w h s i j → get_or (names w h s) i 0 ≤ suc j
+  name_least i j b l = rw (chain_name l) (name_range j b).1
 
 -- The laws of names decide the table.
 module _ (w h : ℕ) (s t : List ℕ) (r : Named w h s t) where
-  named-same : {i j : ℕ} → Chain w h s i j → get_or t i 0 - 1 ≡ get_or t j 0 - 1
-  named-same l = ap (λ x. x - 1) (linked-same (λ i. get_or t i 0) r.alike l)
+  named_same : {i j : ℕ} → Chain w h s i j → get_or t i 0 - 1 ≡ get_or t j 0 - 1
+  named_same l = ap (λ x. x - 1) (linked_same (λ i. get_or t i 0) r.alike l)
 
-  named-roots : Roots (west w s) (north w s) (w * h) (λ i. get_or t i 0 - 1)
-  named-roots =
+  named_roots : Roots (west w s) (north w s) (w * h) (λ i. get_or t i 0 - 1)
+  named_roots =
       record {
-        same-b = λ i b. named-same (back (west-chain w h s i b));
-        same-c = λ i b. named-same (back (north-chain w h s i b));
+        same_b = λ i b. named_same (back (west_chain w h s i b));
+        same_c = λ i b. named_same (back (north_chain w h s i b));
         low = λ i b. let p = r.first i b in omega arith;
         joined = λ i b.
             let p = r.first i b in
             let e : get_or t i 0 - 1 ≡ p.cell = omega arith in
-            rw e (chain-joined w h s p.chain);
+            rw e (chain_joined w h s p.chain);
       }
 
-  named-entry : (i : ℕ) → i < w * h → get_or t i 0 ≡ get_or (names w h s) i 0
-  named-entry i b =
+  named_entry : (i : ℕ) → i < w * h → get_or t i 0 ≡ get_or (names w h s) i 0
+  named_entry i b =
       let p = r.first i b in
-      let e = roots-unique named-roots (names-roots w h s) i b in
-      omega (arith, name-suc w h s i b)
+      let e = roots_unique named_roots (names_roots w h s) i b in
+      omega (arith, name_suc w h s i b)
 
-  pub named-names : t ≡ names w h s
-  named-names =
-      ext_get_or 0 t (names w h s) (r.sized ∙ sym (length-names w h s)) (λ i b. named-entry i (rw r.sized at b))
+  pub named_names : t ≡ names w h s
+  named_names =
+      ext_get_or 0 t (names w h s) (r.sized ∙ sym (length_names w h s)) (λ i b. named_entry i (rw r.sized at b))
 
 -- Where side-by-side cells of equal label have equal labels in t too, so do the cells of a region.
 relabelled : (w h : ℕ) (s t : List ℕ) → ((i j : ℕ) → Kin w h s i j → label t i ≡ label t j)
     → {i j : ℕ} → Chain w h s i j → Chain w h t i j
-relabelled w h s t f = linked-map (λ i j k. step (record { beside = k.beside; alike = f i j k }))
+relabelled w h s t f = linked_map (λ i j k. step (record { beside = k.beside; alike = f i j k }))
 
 -- The names tell nothing of the labels but which side-by-side cells have equal ones.
-pub names-agree : (w h : ℕ) (s t : List ℕ)
+pub names_agree : (w h : ℕ) (s t : List ℕ)
     → ((i j : ℕ) → Beside w h i j → (label s i ≡ label s j) ↔ (label t i ≡ label t j))
     → names w h s ≡ names w h t
-names-agree w h s t e =
-    named-names w h t (names w h s)
+names_agree w h s t e =
+    named_names w h t (names w h s)
     (record {
-      sized = length-names w h s;
-      alike = λ i j k. kin-name w h s i j (record { beside = k.beside; alike = (e i j k.beside).1 k.alike });
+      sized = length_names w h s;
+      alike = λ i j k. kin_name w h s i j (record { beside = k.beside; alike = (e i j k.beside).1 k.alike });
       first = λ i b.
-          let p = (names-named w h s).first i b in
+          let p = (names_named w h s).first i b in
           record {
             cell = p.cell;
             named = p.named;
@@ -287,20 +287,20 @@ names-agree w h s t e =
     })
 
 -- a region has one label
-pub chain-label : (w h : ℕ) (s : List ℕ) {i j : ℕ} → Chain w h s i j → label s i ≡ label s j
-chain-label w h s = linked-same (label s) (λ i j k. k.alike)
+pub chain_label : (w h : ℕ) (s : List ℕ) {i j : ℕ} → Chain w h s i j → label s i ≡ label s j
+chain_label w h s = linked_same (label s) (λ i j k. k.alike)
 
 -- side-by-side cells have equal names where they have equal labels
-pub names-labels : (w h : ℕ) (s : List ℕ) (i j : ℕ) → Beside w h i j
+pub names_labels : (w h : ℕ) (s : List ℕ) (i j : ℕ) → Beside w h i j
     → (label s i ≡ label s j) ↔ (get_or (names w h s) i 0 ≡ get_or (names w h s) j 0)
-names-labels w h s i j b =
-    let (x, y) = beside-below w h i j b in
-    (λ e. kin-name w h s i j (record { beside = b; alike = e }), λ e. chain-label w h s (name-chain w h s i j x y e))
+names_labels w h s i j b =
+    let (x, y) = beside_below w h i j b in
+    (λ e. kin_name w h s i j (record { beside = b; alike = e }), λ e. chain_label w h s (name_chain w h s i j x y e))
 
 -- Naming names changes nothing.
-pub names-names : (w h : ℕ) (s : List ℕ) → names w h (names w h s) ≡ names w h s
+pub names_names : (w h : ℕ) (s : List ℕ) → names w h (names w h s) ≡ names w h s
 unfolding label
-names-names w h s = sym (names-agree w h s (names w h s) (names-labels w h s))
+names_names w h s = sym (names_agree w h s (names w h s) (names_labels w h s))
 
 -- Joining the names a and b of two cells x and y that lie side by side: the names, with a and b made the smaller of the
 -- two, are names again. That the cells lie side by side makes the two regions one, in `touching`; else it tells only
@@ -310,77 +310,77 @@ lowered w h s a b = map (lower a b) (names w h s)
 
 module _ (w h : ℕ) (s : List ℕ) (a b x y : ℕ) (touch : Beside w h x y ⊎ Beside w h y x)
     (is-a : get_or (names w h s) x 0 ≡ a) (is_b : get_or (names w h s) y 0 ≡ b) where
-  lowered-label : (i : ℕ) → label (lowered w h s a b) i ≡ lower a b (get_or (names w h s) i 0)
+  lowered_label : (i : ℕ) → label (lowered w h s a b) i ≡ lower a b (get_or (names w h s) i 0)
   unfolding label
-  lowered-label i = getD-lower a b (names w h s) i
+  lowered_label i = get_or_lower a b (names w h s) i
 
   -- the cells of a region stay of one region
-  lowered-chain : {i j : ℕ} → Chain w h s i j → Chain w h (lowered w h s a b) i j
-  lowered-chain =
-      relabelled w h s (lowered w h s a b) (λ i j k. cc (lowered-label i, lowered-label j, kin-name w h s i j k))
+  lowered_chain : {i j : ℕ} → Chain w h s i j → Chain w h (lowered w h s a b) i j
+  lowered_chain =
+      relabelled w h s (lowered w h s a b) (λ i j k. cc (lowered_label i, lowered_label j, kin_name w h s i j k))
 
-  touch-below : (x < w * h) × (y < w * h)
-  touch-below = ⊎_elim (λ p. beside-below w h x y p) (λ p. let q = beside-below w h y x p in (q.1, q.0)) touch
+  touch_below : (x < w * h) × (y < w * h)
+  touch_below = ⊎_elim (λ p. beside_below w h x y p) (λ p. let q = beside_below w h y x p in (q.1, q.0)) touch
 
-  touch-label : label (lowered w h s a b) x ≡ label (lowered w h s a b) y
-  touch-label = cc (lowered-label x, lowered-label y, lower-left a b, lower-right a b)
+  touch_label : label (lowered w h s a b) x ≡ label (lowered w h s a b) y
+  touch_label = cc (lowered_label x, lowered_label y, lower_left a b, lower_right a b)
 
   touching : Chain w h (lowered w h s a b) x y
   touching =
-      ⊎_elim (λ p. step (record { beside = p; alike = touch-label }))
-      (λ p. back (step (record { beside = p; alike = sym touch-label }))) touch
+      ⊎_elim (λ p. step (record { beside = p; alike = touch_label }))
+      (λ p. back (step (record { beside = p; alike = sym touch_label }))) touch
 
   -- a cell whose name stays has its first cell still
-  kept-first : (i : ℕ) → i < w * h → lower a b (get_or (names w h s) i 0) ≡ get_or (names w h s) i 0
+  kept_first : (i : ℕ) → i < w * h → lower a b (get_or (names w h s) i 0) ≡ get_or (names w h s) i 0
       → First w h (lowered w h s a b) i (lower a b (get_or (names w h s) i 0))
-  kept-first i d e =
-      let p = (names-named w h s).first i d in
-      record { cell = p.cell; named = e ∙ p.named; before = p.before; chain = lowered-chain p.chain }
+  kept_first i d e =
+      let p = (names_named w h s).first i d in
+      record { cell = p.cell; named = e ∙ p.named; before = p.before; chain = lowered_chain p.chain }
 
   -- a cell i of the region of u, which is joined with the region of v, takes the name of v
-  fallen-first : (i u v : ℕ) → i < w * h → u < w * h → v < w * h → Chain w h (lowered w h s a b) u v
+  fallen_first : (i u v : ℕ) → i < w * h → u < w * h → v < w * h → Chain w h (lowered w h s a b) u v
       → get_or (names w h s) i 0 ≡ get_or (names w h s) u 0 → get_or (names w h s) v 0 ≤ get_or (names w h s) u 0
       → First w h (lowered w h s a b) i (get_or (names w h s) v 0)
-  fallen-first i u v bi bu bv l e f =
-      let p = (names-named w h s).first v bv in
-      let r = name-range w h s i bi in
+  fallen_first i u v bi bu bv l e f =
+      let p = (names_named w h s).first v bv in
+      let r = name_range w h s i bi in
       record {
         cell = p.cell;
         named = p.named;
         before = omega arith;
-        chain = then (lowered-chain (name-chain w h s i u bi bu e)) (then l (lowered-chain p.chain));
+        chain = then (lowered_chain (name_chain w h s i u bi bu e)) (then l (lowered_chain p.chain));
       }
 
-  larger-first : (i : ℕ) → i < w * h → get_or (names w h s) i 0 ≡ max a b → Dec (a ≤ b)
+  larger_first : (i : ℕ) → i < w * h → get_or (names w h s) i 0 ≡ max a b → Dec (a ≤ b)
       → First w h (lowered w h s a b) i (min a b)
-  larger-first i d e (yes f) =
+  larger_first i d e (yes f) =
       let m : min a b ≡ get_or (names w h s) x 0 = omega arith in
-      rw m (fallen-first i y x d touch-below.1 touch-below.0 (back touching) (omega arith) (omega arith))
-  larger-first i d e (no f) =
+      rw m (fallen_first i y x d touch_below.1 touch_below.0 (back touching) (omega arith) (omega arith))
+  larger_first i d e (no f) =
       let m : min a b ≡ get_or (names w h s) y 0 = omega arith in
-      rw m (fallen-first i x y d touch-below.0 touch-below.1 touching (omega arith) (omega arith))
+      rw m (fallen_first i x y d touch_below.0 touch_below.1 touching (omega arith) (omega arith))
 
-  lowered-first : (i : ℕ) → i < w * h → First w h (lowered w h s a b) i (get_or (lowered w h s a b) i 0)
-  lowered-first i d =
-      rw getD-lower
-      (⊎_elim (λ p. rw p.1 (larger-first i d p.0 (dec_le a b))) (λ p. kept-first i d p.1)
-      (lower-cases a b (get_or (names w h s) i 0)))
+  lowered_first : (i : ℕ) → i < w * h → First w h (lowered w h s a b) i (get_or (lowered w h s a b) i 0)
+  lowered_first i d =
+      rw get_or_lower
+      (⊎_elim (λ p. rw p.1 (larger_first i d p.0 (dec_le a b))) (λ p. kept_first i d p.1)
+      (lower_cases a b (get_or (names w h s) i 0)))
 
-  lowered-named : Named w h (lowered w h s a b) (lowered w h s a b)
+  lowered_named : Named w h (lowered w h s a b) (lowered w h s a b)
   unfolding label
-  lowered-named =
+  lowered_named =
       record {
-        sized = length-map (names w h s) (lower a b) ∙ length-names w h s;
+        sized = length-map (names w h s) (lower a b) ∙ length_names w h s;
         alike = λ i j k. k.alike;
-        first = lowered-first;
+        first = lowered_first;
       }
 
   pub join_names : names w h (map (lower a b) (names w h s)) ≡ map (lower a b) (names w h s)
-  join_names = sym (named-names w h (lowered w h s a b) (lowered w h s a b) lowered-named)
+  join_names = sym (named_names w h (lowered w h s a b) (lowered w h s a b) lowered_named)
 
 -- Of two regions that do not touch this fails: in a row of three cells with the labels 1, 2, 1 the names are 1, 2, 3;
 -- with 1 and 3 both made 1 they are 1, 2, 1, and the names of that are 1, 2, 3 once more.
-pub apart-fails : names 3 1 (map (lower 1 3) (names 3 1 (1 ∷ 2 ∷ 1 ∷ [])))
+pub apart_fails : names 3 1 (map (lower 1 3) (names 3 1 (1 ∷ 2 ∷ 1 ∷ [])))
     ≢ map (lower 1 3) (names 3 1 (1 ∷ 2 ∷ 1 ∷ []))
 unfolding names west north label least ties tie lower table listed
-apart-fails e = let f : ◌≡◌ {A = ℕ} 3 1 = ap (λ t. get_or t 2 0) e in omega arith
+apart_fails e = let f : ◌≡◌ {A = ℕ} 3 1 = ap (λ t. get_or t 2 0) e in omega arith

@@ -15,29 +15,29 @@ use Rattle.laws.proofs.Test.{and_left, and_right}
 use Rattle.laws.proofs.Walk.{run_along}
 use Rattle.laws.proofs.Chart.{Map, Chart, Colours, taken, less}
 use Rattle.laws.proofs.Chart as Chart
-use Rattle.laws.proofs.Less.{rot-turns, chase-four}
+use Rattle.laws.proofs.Less.{rot_turns, chase_four}
 use Rattle.laws.proofs.Over.{links}
-use Rattle.laws.proofs.Alike.{links-agree}
+use Rattle.laws.proofs.Alike.{links_agree}
 use Rattle.point_darts.specs.Dart.{mark, slots}
 use Rattle.paper.specs.Joining.{Links, at, on, shared, chase, removed}
 use Rattle.paper_laws.proofs.Between.{between_lower}
-use Rattle.paper_laws.proofs.Marks.{length_marked, at-marked}
+use Rattle.paper_laws.proofs.Marks.{length_marked, at_marked}
 
 -- where a table has links, its darts are those that are on
-pub on-links : (t : List ℕ) {o : ℕ → Bool} {f : ℕ → ℕ} → ((d : ℕ) → at t d ≡ links mark o f d)
+pub on_links : (t : List ℕ) {o : ℕ → Bool} {f : ℕ → ℕ} → ((d : ℕ) → at t d ≡ links mark o f d)
     → ((d : ℕ) → o d ≡ true → f d ≢ mark) → (d : ℕ) → on t d ≡ o d
 unfolding on links
-on-links t {o} {f} r n d = go (o d) refl
+on_links t {o} {f} r n d = go (o d) refl
   where
     go : (b : Bool) → o d ≡ b → on t d ≡ o d
     go true e = rw (r d, e, ne_eqb (f d) mark (n d e))
     go false e = rw (r d, e, eq-eqb mark mark refl)
 
 -- the tables keep their length
-pub removed-lengths : (w h : ℕ) (l : Links) (gone : ℕ → Bool)
+pub removed_lengths : (w h : ℕ) (l : Links) (gone : ℕ → Bool)
     → (length (removed w h l gone).next ≡ slots w h) × (length (removed w h l gone).other ≡ slots w h)
 unfolding removed
-removed-lengths w h l gone =
+removed_lengths w h l gone =
     let rest : ℕ → Bool = λ d. on l.next d && not (gone d) in
     (length_marked w h rest (λ d. chase l gone (at l.next d)), length_marked w h rest (at l.other))
 
@@ -54,71 +54,71 @@ module _ {w h : ℕ} {x : Map} {colour : ℕ → ℕ} {l : Links} {s : List ℕ}
   below : (d : ℕ) → x.on d ≡ true → d < slots w h
   below d h = rw r.size at (c.turns.below d h)
 
-  no-mark : (d : ℕ) → x.on d ≡ true → d ≢ mark
-  no-mark d h e = let b = below d h in omega arith
+  no_mark : (d : ℕ) → x.on d ≡ true → d ≢ mark
+  no_mark d h e = let b = below d h in omega arith
 
-  next-at : (d : ℕ) → x.on d ≡ true → at l.next d ≡ nx d
+  next_at : (d : ℕ) → x.on d ≡ true → at l.next d ≡ nx d
   unfolding links
-  next-at d h = r.nexts d ∙ rw h
+  next_at d h = r.nexts d ∙ rw h
 
-  on-next : (d : ℕ) → on l.next d ≡ x.on d
-  on-next = on-links l.next r.nexts (λ d h. no-mark (nx d) (c.turns.stays d h))
+  on_next : (d : ℕ) → on l.next d ≡ x.on d
+  on_next = on_links l.next r.nexts (λ d h. no_mark (nx d) (c.turns.stays d h))
 
   module _ {a b : ℕ} (n : a ≢ b) where
     abbrev gone : ℕ → Bool
     gone = shared s (at l.other) a b
 
-    pub gone-taken : (d : ℕ) → x.on d ≡ true → gone d ≡ taken x (lower a b) d
+    pub gone_taken : (d : ℕ) → x.on d ≡ true → gone d ≡ taken x (lower a b) d
     unfolding shared taken
-    gone-taken d h =
-        rw (r.sides d h, r.others d h, r.sides (rev d) (c.rev-on d h))
+    gone_taken d h =
+        rw (r.sides d h, r.others d h, r.sides (rev d) (c.rev_on d h))
         (between_lower a b (side d) (side (rev d)) n (λ e. c.parts d h (sym e)))
 
-    chase-same : (d : ℕ) → x.on d ≡ true → chase l gone d ≡ Chart.chase x (lower a b) 4 d
+    chase_same : (d : ℕ) → x.on d ≡ true → chase l gone d ≡ Chart.chase x (lower a b) 4 d
     unfolding chase Chart.chase
-    chase-same =
+    chase_same =
         run_along (λ d. d) (λ d. at l.next (at l.other d)) (λ d. nx (rev d)) (λ d. not (gone d))
-        (λ d. not (taken x (lower a b) d)) (λ d. x.on d ≡ true) (λ d h. ap not (gone-taken d h))
-        (λ d h. ap (at l.next) (r.others d h) ∙ next-at (rev d) (c.rev-on d h)) (λ d h. (rot-turns c).stays d h) 4
+        (λ d. not (taken x (lower a b) d)) (λ d. x.on d ≡ true) (λ d h. ap not (gone_taken d h))
+        (λ d h. ap (at l.next) (r.others d h) ∙ next_at (rev d) (c.rev_on d h)) (λ d h. (rot_turns c).stays d h) 4
 
     rest : ℕ → Bool
     rest d = on l.next d && not (gone d)
 
-    rest-on : (d : ℕ) → rest d ≡ (less x (lower a b)).on d
+    rest_on : (d : ℕ) → rest d ≡ (less x (lower a b)).on d
     unfolding rest less
-    rest-on d = go (x.on d) refl
+    rest_on d = go (x.on d) refl
       where
         go : (t : Bool) → x.on d ≡ t → rest d ≡ (less x (lower a b)).on d
-        go true e = rw (on-next d, e, gone-taken d e)
-        go false e = rw (on-next d, e)
+        go true e = rw (on_next d, e, gone_taken d e)
+        go false e = rw (on_next d, e)
 
-    rest-was : (d : ℕ) → rest d ≡ true → x.on d ≡ true
+    rest_was : (d : ℕ) → rest d ≡ true → x.on d ≡ true
     unfolding rest
-    rest-was d e = sym (on-next d) ∙ and_left (on l.next d) (not (gone d)) e
+    rest_was d e = sym (on_next d) ∙ and_left (on l.next d) (not (gone d)) e
 
     rest_below : (d : ℕ) → rest d ≡ true → d < slots w h
-    rest_below d e = below d (rest-was d e)
+    rest_below d e = below d (rest_was d e)
 
-    rest-left : (d : ℕ) → rest d ≡ true → taken x (lower a b) d ≡ false
+    rest_left : (d : ℕ) → rest d ≡ true → taken x (lower a b) d ≡ false
     unfolding rest
-    rest-left d e =
-        sym (gone-taken d (rest-was d e)) ∙ not-true (gone d) (and_right (on l.next d) (not (gone d)) e)
+    rest_left d e =
+        sym (gone_taken d (rest_was d e)) ∙ not-true (gone d) (and_right (on l.next d) (not (gone d)) e)
 
-    pub removed-next : (d : ℕ)
+    pub removed_next : (d : ℕ)
         → at (removed w h l (shared s (at l.other) a b)).next d ≡ links mark (less x (lower a b)).on (less x (lower a b)).nx d
     unfolding links removed rest less
-    removed-next d =
-        at-marked w h rest (λ e. chase l gone (at l.next e)) rest_below d
-        ∙ links-agree mark rest-on
+    removed_next d =
+        at_marked w h rest (λ e. chase l gone (at l.next e)) rest_below d
+        ∙ links_agree mark rest_on
         (λ e t.
-        let o = rest-was e t in
-        ap (chase l gone) (next-at e o) ∙ chase-same (nx e) (c.turns.stays e o)
-        ∙ chase-four c u (lower a b) e o (rest-left e t))
+        let o = rest_was e t in
+        ap (chase l gone) (next_at e o) ∙ chase_same (nx e) (c.turns.stays e o)
+        ∙ chase_four c u (lower a b) e o (rest_left e t))
         d
 
-    pub removed-other : (d : ℕ)
+    pub removed_other : (d : ℕ)
         → at (removed w h l (shared s (at l.other) a b)).other d ≡ links mark (less x (lower a b)).on (less x (lower a b)).rev d
     unfolding links removed rest less
-    removed-other d =
-        at-marked w h rest (at l.other) rest_below d
-        ∙ links-agree mark rest-on (λ e t. r.others e (rest-was e t)) d
+    removed_other d =
+        at_marked w h rest (at l.other) rest_below d
+        ∙ links_agree mark rest_on (λ e t. r.others e (rest_was e t)) d

@@ -1,8 +1,8 @@
 -- The parent of a region lies on all four sides of every cell of the region.
---   every-beside    == a law of the cells beside each other in rows and in columns is a law of all side-by-side cells
---   round w h n i   == the region round the piece at the north-west corner of cell i
---   topSide w i     == the dart that runs east along the top side of cell i
---   nook w h n t    == the name of the cell north-west of the point t
+--   every_beside    == a law of the cells beside each other in rows and in columns is a law of all side-by-side cells
+--   round w h n i   == the region round the piece at the north_west corner of cell i
+--   top_side w i     == the dart that runs east along the top side of cell i
+--   nook w h n t    == the name of the cell north_west of the point t
 --   inner w h n t x y == the cell in column x and row y lies inside the piece with the least point t
 --   Amid w h P x y  == in the row of the cell, and in its column, cells before and after it have P
 --   Used w h n r    == the name r is borne by its own cell
@@ -18,25 +18,25 @@ use native.Mathlib.Omega.{arith}
 use lib.Dec.{lit<}
 use lib.ListN.{get_or}
 use borrow.Author.Tests.{ne_eqb, eqb-true}
-use Rattle.laws.proofs.Least.{step, linked-same}
-use Rattle.laws.proofs.Parity.{Amid, amid-map, inside-amid}
+use Rattle.laws.proofs.Least.{step, linked_same}
+use Rattle.laws.proofs.Parity.{Amid, amid_map, inside_amid}
 use Rattle.point_darts.specs.Dart.{mark, dart, point}
 use Rattle.point_darts.specs.Point.{corner}
-use Rattle.point_darts.proofs.Darts.{place, point-dart}
+use Rattle.point_darts.proofs.Darts.{place, point_dart}
 use Rattle.paper.specs.Name.{names, named, cells}
 use Rattle.paper.specs.Level.{border}
-use Rattle.paper.specs.Enclosure.{topSide}
-use Rattle.paper_laws.proofs.Name.{Beside, cell_below, chain-name, name-chain}
-use Rattle.paper_laws.proofs.First.{every-cell, top-side-cell, named-cell, named-cases, top-side-on}
+use Rattle.paper.specs.Enclosure.{top_side}
+use Rattle.paper_laws.proofs.Name.{Beside, cell_below, chain_name, name_chain}
+use Rattle.paper_laws.proofs.First.{every_cell, top_side_cell, named_cell, named_cases, top_side_on}
 use Rattle.paper_laws.proofs.Kept.{top}
-use Rattle.paper_laws.proofs.Enclosure.{Head, line-head, head-side, round, round-below}
-use Rattle.paper_laws.proofs.Enclosure.{Used, parentage, parents-own}
-use Rattle.paper_laws.proofs.Parity.{sheet-edged, nook, inner, inner-east, inner-south, top-inner}
+use Rattle.paper_laws.proofs.Enclosure.{Head, line_head, head_side, round, round_below}
+use Rattle.paper_laws.proofs.Enclosure.{Used, parentage, parents_own}
+use Rattle.paper_laws.proofs.Parity.{sheet_edged, nook, inner, inner_east, inner_south, top_inner}
 
 -- Side-by-side cells by column and row.
 module _ (w h : ℕ) where
-  pub cell-column : (x y : ℕ) → x < w → (y * w + x) % w ≡ x
-  cell-column x y l = mul-add-mod_self_right y w x ∙ mod-eq_of_lt l
+  pub cell_column : (x y : ℕ) → x < w → (y * w + x) % w ≡ x
+  cell_column x y l = mul-add-mod_self_right y w x ∙ mod-eq_of_lt l
 
   pub cell_row : (x y : ℕ) → x < w → (y * w + x) / w ≡ y
   cell_row x y l =
@@ -46,24 +46,24 @@ module _ (w h : ℕ) where
   module _ (P : ℕ → ℕ → Type 0)
       (east : (x y : ℕ) → suc x < w → y < h → P (y * w + x) (y * w + suc x))
       (south : (x y : ℕ) → x < w → suc y < h → P (y * w + x) (suc y * w + x)) where
-    beside-east : (x y : ℕ) → x < w → y < h → (i : ℕ) → 0 < x → y * w + x ≡ i + 1 → P i (y * w + x)
-    beside-east zero y a b i p e = absurd (omega arith)
-    beside-east (suc x) y a b i p e =
+    beside_east : (x y : ℕ) → x < w → y < h → (i : ℕ) → 0 < x → y * w + x ≡ i + 1 → P i (y * w + x)
+    beside_east zero y a b i p e = absurd (omega arith)
+    beside_east (suc x) y a b i p e =
         let q : i ≡ y * w + x = omega arith in
         rw q (east x y a b)
 
-    beside-south : (x y : ℕ) → x < w → y < h → (i : ℕ) → y * w + x ≡ i + w → P i (y * w + x)
-    beside-south x zero a b i e = absurd (omega (arith, zero-mul w))
-    beside-south x (suc y) a b i e =
+    beside_south : (x y : ℕ) → x < w → y < h → (i : ℕ) → y * w + x ≡ i + w → P i (y * w + x)
+    beside_south x zero a b i e = absurd (omega (arith, zero-mul w))
+    beside_south x (suc y) a b i e =
         let q : i ≡ y * w + x = omega (arith, suc-mul y w) in
         rw q (south x y a b)
 
-    pub every-beside : (i j : ℕ) → Beside w h i j → P i j
-    every-beside i j (Beside.row b p e) =
-        every-cell w h (λ j. 0 < j % w → j ≡ i + 1 → P i j)
-        (λ x y l m p. beside-east x y l m i (rw (cell-column x y l) at p)) j b p e
-    every-beside i j (Beside.column b e) =
-        every-cell w h (λ j. j ≡ i + w → P i j) (λ x y l m. beside-south x y l m i) j b e
+    pub every_beside : (i j : ℕ) → Beside w h i j → P i j
+    every_beside i j (Beside.row b p e) =
+        every_cell w h (λ j. 0 < j % w → j ≡ i + 1 → P i j)
+        (λ x y l m p. beside_east x y l m i (rw (cell_column x y l) at p)) j b p e
+    every_beside i j (Beside.column b e) =
+        every_cell w h (λ j. j ≡ i + w → P i j) (λ x y l m. beside_south x y l m i) j b e
 
 -- The regions of a sheet of labels s.
 module _ (w h : ℕ) (s : List ℕ) where
@@ -77,55 +77,55 @@ module _ (w h : ℕ) (s : List ℕ) where
     at : ℕ → A
     at i = g (suc (i % w)) (suc (i / w))
 
-    at-cell : (x y : ℕ) → x < w → at (y * w + x) ≡ g (suc x) (suc y)
+    at_cell : (x y : ℕ) → x < w → at (y * w + x) ≡ g (suc x) (suc y)
     unfolding at
-    at-cell x y l = rw (cell-column w h x y l, cell_row w h x y l)
+    at_cell x y l = rw (cell_column w h x y l, cell_row w h x y l)
 
-    at-east : (x y : ℕ) → suc x < w → y < h → get_or n (y * w + x) 0 ≡ get_or n (y * w + suc x) 0
+    at_east : (x y : ℕ) → suc x < w → y < h → get_or n (y * w + x) 0 ≡ get_or n (y * w + suc x) 0
         → at (y * w + x) ≡ at (y * w + suc x)
-    at-east x y l m q =
+    at_east x y l m q =
         let k : x < w = omega arith in
-        let e = named-cell w h n x y k m ∙ q ∙ sym (named-cell w h n (suc x) y l m) in
-        at-cell x y k ∙ sym (at-cell (suc x) y l ∙ east (suc x) (suc y) (omega arith) e)
+        let e = named_cell w h n x y k m ∙ q ∙ sym (named_cell w h n (suc x) y l m) in
+        at_cell x y k ∙ sym (at_cell (suc x) y l ∙ east (suc x) (suc y) (omega arith) e)
 
-    at-south : (x y : ℕ) → x < w → suc y < h → get_or n (y * w + x) 0 ≡ get_or n (suc y * w + x) 0
+    at_south : (x y : ℕ) → x < w → suc y < h → get_or n (y * w + x) 0 ≡ get_or n (suc y * w + x) 0
         → at (y * w + x) ≡ at (suc y * w + x)
-    at-south x y l m q =
+    at_south x y l m q =
         let k : y < h = omega arith in
-        let e = named-cell w h n x y l k ∙ q ∙ sym (named-cell w h n x (suc y) l m) in
-        at-cell x y l ∙ sym (at-cell x (suc y) l ∙ south (suc x) (suc y) l e)
+        let e = named_cell w h n x y l k ∙ q ∙ sym (named_cell w h n x (suc y) l m) in
+        at_cell x y l ∙ sym (at_cell x (suc y) l ∙ south (suc x) (suc y) l e)
 
     at_same : (i j : ℕ) → i < w * h → j < w * h → get_or n i 0 ≡ get_or n j 0 → at i ≡ at j
     at_same i j b d e =
-        linked-same at
-        (λ i j k. every-beside w h (λ i j. get_or n i 0 ≡ get_or n j 0 → at i ≡ at j) at-east at-south
-        i j k.beside (chain-name w h s (step k)))
-        (name-chain w h s i j b d e)
+        linked_same at
+        (λ i j k. every_beside w h (λ i j. get_or n i 0 ≡ get_or n j 0 → at i ≡ at j) at_east at_south
+        i j k.beside (chain_name w h s (step k)))
+        (name_chain w h s i j b d e)
 
-    pub region-same : (x y u v : ℕ) → x < w → y < h → u < w → v < h
+    pub region_same : (x y u v : ℕ) → x < w → y < h → u < w → v < h
         → get_or n (y * w + x) 0 ≡ get_or n (v * w + u) 0 → g (suc x) (suc y) ≡ g (suc u) (suc v)
-    region-same x y u v a b c d e =
-        sym (at-cell x y a) ∙ at_same (y * w + x) (v * w + u) (cell_below w h x y a b) (cell_below w h u v c d) e
-        ∙ at-cell u v c
+    region_same x y u v a b c d e =
+        sym (at_cell x y a) ∙ at_same (y * w + x) (v * w + u) (cell_below w h x y a b) (cell_below w h u v c d) e
+        ∙ at_cell u v c
 
 -- the cells of a name all lie inside a piece, or none does
-pub region-inside : (w h : ℕ) (s : List ℕ) (t x y u v : ℕ) → x < w → y < h → u < w → v < h
+pub region_inside : (w h : ℕ) (s : List ℕ) (t x y u v : ℕ) → x < w → y < h → u < w → v < h
     → get_or (names w h s) (y * w + x) 0 ≡ get_or (names w h s) (v * w + u) 0
     → inner w h (names w h s) t (suc x) (suc y) ≡ inner w h (names w h s) t (suc u) (suc v)
-region-inside w h s t x y u v a b c d e =
+region_inside w h s t x y u v a b c d e =
     let l = names w h s in
-    region-same w h s (inner w h l t) (λ j k _. inner-east w h l t j k) (λ j k _. inner-south w h l t j k)
+    region_same w h s (inner w h l t) (λ j k _. inner_east w h l t j k) (λ j k _. inner_south w h l t j k)
     x y u v a b c d e
 
-pub region-named : (w h : ℕ) (s : List ℕ) (t i x y u v : ℕ)
+pub region_named : (w h : ℕ) (s : List ℕ) (t i x y u v : ℕ)
     → named w h (names w h s) x y ≡ suc i → named w h (names w h s) u v ≡ suc i
     → inner w h (names w h s) t x y ≡ inner w h (names w h s) t u v
-region-named w h s t i x y u v e f =
+region_named w h s t i x y u v e f =
     let l = names w h s in
-    named-cases w h l (λ r. r ≡ suc i → inner w h l t x y ≡ inner w h l t u v) x y (λ e. absurd (omega arith))
+    named_cases w h l (λ r. r ≡ suc i → inner w h l t x y ≡ inner w h l t u v) x y (λ e. absurd (omega arith))
     (λ a b p q j k e.
-    named-cases w h l (λ r. r ≡ suc i → inner w h l t x y ≡ inner w h l t u v) u v (λ f. absurd (omega arith))
-    (λ c d p' q' j' k' f. rw (p, q, p', q') (region-inside w h s t a b c d j k j' k' (e ∙ sym f))) f)
+    named_cases w h l (λ r. r ≡ suc i → inner w h l t x y ≡ inner w h l t u v) u v (λ f. absurd (omega arith))
+    (λ c d p' q' j' k' f. rw (p, q, p', q') (region_inside w h s t a b c d j k j' k' (e ∙ sym f))) f)
     e
 
 -- The region whose first cell is in column x and row y, and the region round its outer piece.
@@ -140,56 +140,56 @@ module _ (w h : ℕ) (s : List ℕ) (x y : ℕ) (a : x < w) (b : y < h)
   abbrev t : ℕ
   t = top w h (border w h l) (place w x y)
 
-  first-line : border w h l (dart (place w x y) 0) ≡ true
-  first-line = rw (top-side-cell w x y a) at (top-side-on w h s i (cell_below w h x y a b) own)
+  first_line : border w h l (dart (place w x y) 0) ≡ true
+  first_line = rw (top_side_cell w x y a) at (top_side_on w h s i (cell_below w h x y a b) own)
 
   first_head : Head w h (border w h l) t
-  first_head = rw (point-dart (place w x y) 0 (lit< tt)) at (line-head w h l (dart (place w x y) 0) first-line)
+  first_head = rw (point_dart (place w x y) 0 (lit< tt)) at (line_head w h l (dart (place w x y) 0) first_line)
 
-  round-nook : round w h l i ≡ nook w h l t
+  round_nook : round w h l i ≡ nook w h l t
   unfolding round corner cells
-  round-nook = rw (top-side-cell w x y a, point-dart (place w x y) 0 (lit< tt)) (head-side w h l first_head)
+  round_nook = rw (top_side_cell w x y a, point_dart (place w x y) 0 (lit< tt)) (head_side w h l first_head)
 
   other : suc i ≢ nook w h l t
-  other e = omega (arith, round-below w h s i (cell_below w h x y a b) own, round-nook)
+  other e = omega (arith, round_below w h s i (cell_below w h x y a b) own, round_nook)
 
   -- the first cell lies inside
   first_inner : inner w h l t (suc x) (suc y) ≡ true
   first_inner =
-      top-inner w h l t x y (omega arith) first-line refl
-      (λ e. other (sym (named-cell w h l x y a b ∙ own) ∙ e))
+      top_inner w h l t x y (omega arith) first_line refl
+      (λ e. other (sym (named_cell w h l x y a b ∙ own) ∙ e))
 
   -- and with it all of the region
-  region-inner : (u v : ℕ) → named w h l u v ≡ suc i → inner w h l t u v ≡ true
-  region-inner u v e =
-      region-named w h s t i u v (suc x) (suc y) e (named-cell w h l x y a b ∙ own) ∙ first_inner
+  region_inner : (u v : ℕ) → named w h l u v ≡ suc i → inner w h l t u v ≡ true
+  region_inner u v e =
+      region_named w h s t i u v (suc x) (suc y) e (named_cell w h l x y a b ∙ own) ∙ first_inner
 
-  region-amid : (u v : ℕ) → named w h l u v ≡ suc i → Amid w h (λ j k. named w h l j k ≡ round w h l i) u v
-  region-amid u v e =
-      rw round-nook
-      (amid-map (λ j k. eqb-true (named w h l j k) (nook w h l t))
-      (inside-amid (sheet-edged w h l (nook w h l t) t) u v (region-inner u v e)
+  region_amid : (u v : ℕ) → named w h l u v ≡ suc i → Amid w h (λ j k. named w h l j k ≡ round w h l i) u v
+  region_amid u v e =
+      rw round_nook
+      (amid_map (λ j k. eqb-true (named w h l j k) (nook w h l t))
+      (inside_amid (sheet_edged w h l (nook w h l t) t) u v (region_inner u v e)
       (ne_eqb (named w h l u v) (nook w h l t) (λ q. other (sym e ∙ q)))))
 
 -- the cells of a region lie inside its outer piece
-pub outer-inner : (w h : ℕ) (s : List ℕ) (i : ℕ) → i < w * h → get_or (names w h s) i 0 ≡ suc i → (u v : ℕ)
+pub outer_inner : (w h : ℕ) (s : List ℕ) (i : ℕ) → i < w * h → get_or (names w h s) i 0 ≡ suc i → (u v : ℕ)
     → named w h (names w h s) u v ≡ suc i
-    → inner w h (names w h s) (top w h (border w h (names w h s)) (point (topSide w i))) u v ≡ true
-outer-inner w h s i b own u v =
+    → inner w h (names w h s) (top w h (border w h (names w h s)) (point (top_side w i))) u v ≡ true
+outer_inner w h s i b own u v =
     let l = names w h s in
-    every-cell w h
+    every_cell w h
     (λ i. get_or l i 0 ≡ suc i → named w h l u v ≡ suc i
-    → inner w h l (top w h (border w h l) (point (topSide w i))) u v ≡ true)
-    (λ x y p q own. rw (top-side-cell w x y p, point-dart (place w x y) 0 (lit< tt)) (region-inner w h s x y p q own u v))
+    → inner w h l (top w h (border w h l) (point (top_side w i))) u v ≡ true)
+    (λ x y p q own. rw (top_side_cell w x y p, point_dart (place w x y) 0 (lit< tt)) (region_inner w h s x y p q own u v))
     i b own
 
 -- in the row of each cell of a region, and in its column, cells before and after it are of the region's parent
-pub parent-amid : (w h : ℕ) (s : List ℕ) (r : ℕ) → Used w h (names w h s) r → (x y : ℕ)
+pub parent_amid : (w h : ℕ) (s : List ℕ) (r : ℕ) → Used w h (names w h s) r → (x y : ℕ)
     → named w h (names w h s) x y ≡ r
     → Amid w h (λ j k. named w h (names w h s) j k ≡ get_or (parentage w h (names w h s)) r mark) x y
-parent-amid w h s r u x y e =
-    rw (u.bears, parents-own w h s u.cell u.below u.own)
-    (every-cell w h
+parent_amid w h s r u x y e =
+    rw (u.bears, parents_own w h s u.cell u.below u.own)
+    (every_cell w h
     (λ i. get_or (names w h s) i 0 ≡ suc i → named w h (names w h s) x y ≡ suc i
     → Amid w h (λ j k. named w h (names w h s) j k ≡ round w h (names w h s) i) x y)
-    (λ c d a b own. region-amid w h s c d a b own x y) u.cell u.below u.own (e ∙ u.bears))
+    (λ c d a b own. region_amid w h s c d a b own x y) u.cell u.below u.own (e ∙ u.bears))

@@ -13,8 +13,8 @@ use Rattle.laws.specs.Least.{lower}
 use Rattle.laws.proofs.Test.{clash}
 use Rattle.laws.proofs.Chart.{Map}
 use Rattle.laws.proofs.Over.{next, other}
-use Rattle.laws.proofs.Link.{next-at}
-use Rattle.laws.proofs.Loop.{loop-fewer}
+use Rattle.laws.proofs.Link.{next_at}
+use Rattle.laws.proofs.Loop.{loop_fewer}
 use Rattle.point_darts.specs.Dart.{mark, slots, points, point}
 use Rattle.paper.specs.Name.{names}
 use Rattle.paper.specs.Level.{border, big, tops}
@@ -22,13 +22,13 @@ use Rattle.paper.specs.Level as Level
 use Rattle.paper.specs.Drawing.{Tables, drawn, drawing}
 use Rattle.paper.specs.Joining.{Links, rest1, rest3, smooth, smooths, smoothed, close, closes}
 use Rattle.paper.specs.Sitting.{Joinable, Away, Still}
-use Rattle.paper_laws.proofs.Sheet.{lines-map, sheet, sheet-chart, border-lines}
-use Rattle.paper_laws.proofs.Kept.{top, dart-point, sheet-inside, sheet-tops, sheet-anchored, sheet-loops}
-use Rattle.paper_laws.proofs.Drawn.{anchors, sheet-plane}
-use Rattle.paper_laws.proofs.Smoothed.{smooth-all, smooth-idle, smooth-again}
-use Rattle.paper_laws.proofs.Closed.{close-all, close-idle, close-again}
-use Rattle.paper_laws.proofs.Joined.{r1-on, r3-covers, start, closing}
-use Rattle.paper_laws.proofs.Untouched.{Free, more, free-big, free-next, last-fewer, away-free, top-own}
+use Rattle.paper_laws.proofs.Sheet.{lines_map, sheet, sheet_chart, border_lines}
+use Rattle.paper_laws.proofs.Kept.{top, dart_point, sheet_inside, sheet_tops, sheet_anchored, sheet_loops}
+use Rattle.paper_laws.proofs.Drawn.{anchors, sheet_plane}
+use Rattle.paper_laws.proofs.Smoothed.{smooth_all, smooth_idle, smooth_again}
+use Rattle.paper_laws.proofs.Closed.{close_all, close_idle, close_again}
+use Rattle.paper_laws.proofs.Joined.{r1_on, r3_covers, start, closing}
+use Rattle.paper_laws.proofs.Untouched.{Free, more, free_big, free_next, last_fewer, away_free, top_own}
 
 -- The names n, before and after a and b are lowered to the smaller.
 module _ (w h a b : ℕ) (n : List ℕ) (room : slots w h ≤ mark) (apart : a ≢ b) (za : a ≢ 0) (zb : b ≢ 0) where
@@ -58,7 +58,7 @@ module _ (w h a b : ℕ) (n : List ℕ) (room : slots w h ≤ mark) (apart : a �
         go false e = clash k₁p (fewer p e)
 
     free : Free w h a b n room apart za zb p
-    free = away-free w h a b n room apart za zb p was away
+    free = away_free w h a b n room apart za zb p was away
 
     -- Where it is not big, it is a loop's point, and stands for itself.
     module _ (d : ℕ) (e' : o' d ≡ true) (at_p : point d ≡ p) (small : big o' p ≡ false) where
@@ -69,72 +69,72 @@ module _ (w h a b : ℕ) (n : List ℕ) (room : slots w h ≤ mark) (apart : a �
       kd = ap k at_p ∙ was
 
       sd : big (border w h n) (point d) ≡ false
-      sd = ap (big (border w h n)) at_p ∙ sym (free-big w h a b n room apart za zb p free) ∙ small
+      sd = ap (big (border w h n)) at_p ∙ sym (free_big w h a b n room apart za zb p free) ∙ small
 
       loop : next (sheet w h n) k d ≡ d
-      unfolding sheet lines-map
-      loop = (sheet-loops w h n).loopy.loop d e kd sd
+      unfolding sheet lines_map
+      loop = (sheet_loops w h n).loopy.loop d e kd sd
 
-      still-loop : next m' k₁ d ≡ d
-      unfolding sheet lines-map
-      still-loop =
-          let l = last-fewer w h a b n room apart za zb d e (free d e at_p) in
+      still_loop : next m' k₁ d ≡ d
+      unfolding sheet lines_map
+      still_loop =
+          let l = last_fewer w h a b n room apart za zb d e (free d e at_p) in
           let far : point (other (sheet w h n) k d) ≡ p =
-          sym (next-at (sheet-chart w h n) (sheet-loops w h n).covers d e) ∙ ap point loop ∙ at_p in
-          loop-fewer (sheet-chart w h n') (r3-covers w h a b n room apart za zb) fewer d e' (ap k₁ at_p ∙ k₁p)
-          (ap (Level.next w o') l ∙ free-next w h a b n room apart za zb _ (rw far free) ∙ loop)
+          sym (next_at (sheet_chart w h n) (sheet_loops w h n).covers d e) ∙ ap point loop ∙ at_p in
+          loop_fewer (sheet_chart w h n') (r3_covers w h a b n room apart za zb) fewer d e' (ap k₁ at_p ∙ k₁p)
+          (ap (Level.next w o') l ∙ free_next w h a b n room apart za zb _ (rw far free) ∙ loop)
 
-      still-top : top w h o' p ≡ p
-      unfolding sheet lines-map
-      still-top =
-          let b' : point d < points w h = dart-point w h o' (border-lines w h n') d e' in
+      still_top : top w h o' p ≡ p
+      unfolding sheet lines_map
+      still_top =
+          let b' : point d < points w h = dart_point w h o' (border_lines w h n') d e' in
           rw at_p at
-          (top-own w h (more w h a b n room apart za zb) (sheet-inside w h n') (point d) b'
-          ((sheet-anchored w h n).own d e kd sd))
+          (top_own w h (more w h a b n room apart za zb) (sheet_inside w h n') (point d) b'
+          ((sheet_anchored w h n).own d e kd sd))
 
   abbrev r : Links
   r = rest3 w h t a b
 
-  smooth-away : (i p : ℕ) → Away t a b p → smooth (smooths i 0 r) p ≡ smooths i 0 r
-  unfolding rest3 sheet lines-map
-  smooth-away i p away =
-      let (k₁, f, fewer) = smooth-all (sheet-plane w h n') room i 0 k _ (start w h a b n room apart za zb) in
-      smooth-idle (sheet-plane w h n') room k₁ _ p f.held f.covers
-      (λ d e q kp bp. still-loop fewer p away kp d e q bp)
+  smooth_away : (i p : ℕ) → Away t a b p → smooth (smooths i 0 r) p ≡ smooths i 0 r
+  unfolding rest3 sheet lines_map
+  smooth_away i p away =
+      let (k₁, f, fewer) = smooth_all (sheet_plane w h n') room i 0 k _ (start w h a b n room apart za zb) in
+      smooth_idle (sheet_plane w h n') room k₁ _ p f.held f.covers
+      (λ d e q kp bp. still_loop fewer p away kp d e q bp)
 
-  smooth-treated : (i p : ℕ) → p < i → smooth (smooths i 0 r) p ≡ smooths i 0 r
+  smooth_treated : (i p : ℕ) → p < i → smooth (smooths i 0 r) p ≡ smooths i 0 r
   unfolding rest3
-  smooth-treated i p q =
-      let (k₁, f, _) = smooth-all (sheet-plane w h n') room i 0 k _ (start w h a b n room apart za zb) in
-      smooth-again (sheet-plane w h n') room k₁ _ i p (rw (zero-add i) at f) q
+  smooth_treated i p q =
+      let (k₁, f, _) = smooth_all (sheet_plane w h n') room i 0 k _ (start w h a b n room apart za zb) in
+      smooth_again (sheet_plane w h n') room k₁ _ i p (rw (zero-add i) at f) q
 
   abbrev closing_after : ℕ → Links
   closing_after i = closes o' (tops w h o') i 0 (smoothed w h r)
 
-  close-away : (i p : ℕ) → Away t a b p → close o' (tops w h o') (closing_after i) p ≡ closing_after i
-  unfolding rest3 sheet lines-map
-  close-away i p away =
+  close_away : (i p : ℕ) → Away t a b p → close o' (tops w h o') (closing_after i) p ≡ closing_after i
+  unfolding rest3 sheet lines_map
+  close_away i p away =
       let (k₁, c, fewer) = closing w h a b n room apart za zb in
-      let (k₂, g, new) = close-all (sheet-plane w h n') room (tops w h o') (sheet-tops w h n') i 0 k₁ _ c in
-      close-idle (sheet-plane w h n') room (tops w h o') (sheet-tops w h n') k₂ _ p g.held g.loops
-      (λ d e q kp bp. ⊎_elim (λ x. still-top fewer p away x d e q bp) (λ x. x) (new p kp))
+      let (k₂, g, new) = close_all (sheet_plane w h n') room (tops w h o') (sheet_tops w h n') i 0 k₁ _ c in
+      close_idle (sheet_plane w h n') room (tops w h o') (sheet_tops w h n') k₂ _ p g.held g.loops
+      (λ d e q kp bp. ⊎_elim (λ x. still_top fewer p away x d e q bp) (λ x. x) (new p kp))
 
-  close-treated : (i p : ℕ) → p < i → close o' (tops w h o') (closing_after i) p ≡ closing_after i
-  unfolding rest3 sheet lines-map
-  close-treated i p q =
+  close_treated : (i p : ℕ) → p < i → close o' (tops w h o') (closing_after i) p ≡ closing_after i
+  unfolding rest3 sheet lines_map
+  close_treated i p q =
       let (k₁, c, _) = closing w h a b n room apart za zb in
-      let (k₂, g, _) = close-all (sheet-plane w h n') room (tops w h o') (sheet-tops w h n') i 0 k₁ _ c in
-      close-again (sheet-plane w h n') room (tops w h o') (sheet-tops w h n') k₂ _ i p (rw (zero-add i) at g) q
+      let (k₂, g, _) = close_all (sheet_plane w h n') room (tops w h o') (sheet_tops w h n') i 0 k₁ _ c in
+      close_again (sheet_plane w h n') room (tops w h o') (sheet_tops w h n') k₂ _ i p (rw (zero-add i) at g) q
 
-pub still-joined : (w h : ℕ) (s : List ℕ) → slots w h ≤ mark → (a b : ℕ) → Joinable w h (drawing w h s) a b
+pub still_joined : (w h : ℕ) (s : List ℕ) → slots w h ≤ mark → (a b : ℕ) → Joinable w h (drawing w h s) a b
     → Still w h (drawing w h s) a b
 unfolding drawing rest1
-still-joined w h s room a b j =
+still_joined w h s room a b j =
     let n = names w h s in
     let (za, zb) = j.inner in
     record {
       smoothing = λ i p.
-          ⊎_elim (smooth-away w h a b n room j.apart za zb i p) (smooth-treated w h a b n room j.apart za zb i p);
-      closing = rw (r1-on w h a b n room j.apart za zb)
-          (λ i p. ⊎_elim (close-away w h a b n room j.apart za zb i p) (close-treated w h a b n room j.apart za zb i p));
+          ⊎_elim (smooth_away w h a b n room j.apart za zb i p) (smooth_treated w h a b n room j.apart za zb i p);
+      closing = rw (r1_on w h a b n room j.apart za zb)
+          (λ i p. ⊎_elim (close_away w h a b n room j.apart za zb i p) (close_treated w h a b n room j.apart za zb i p));
     }

@@ -1,7 +1,7 @@
 -- Points and darts by column and row.
 --   place w x y     == the point in column x and row y
---   every-dart      == a law of the darts that leave places is a law of every dart
---   every-line      == a law of the darts along rows and along columns is a law of every dart whose line is on the sheet
+--   every_dart      == a law of the darts that leave places is a law of every dart
+--   every_line      == a law of the darts along rows and along columns is a law of every dart whose line is on the sheet
 use mathlib.Core.Path.{◌≡◌, ap, ap₂, ◌∙◌, subst}
 use mathlib.Core.Bool.{true, ◌&&◌, and-eq-true_iff}
 use Prim.Native.Nat.{ℕ, zero, suc, ◌+◌, ◌*◌, ◌-◌, ◌/◌, ◌%◌, ◌<◌, ◌≤◌}
@@ -21,45 +21,45 @@ four P a b c d (suc (suc zero)) h = c
 four P a b c d (suc (suc (suc zero))) h = d
 four P a b c d (suc (suc (suc (suc k)))) h = absurd (omega arith)
 
-pub point-dart : (p k : ℕ) → k < 4 → point (dart p k) ≡ p
+pub point_dart : (p k : ℕ) → k < 4 → point (dart p k) ≡ p
 unfolding point dart
-point-dart p k h = omega arith
+point_dart p k h = omega arith
 
-pub direction-dart : (p k : ℕ) → k < 4 → direction (dart p k) ≡ k
+pub direction_dart : (p k : ℕ) → k < 4 → direction (dart p k) ≡ k
 unfolding direction dart
-direction-dart p k h = omega arith
+direction_dart p k h = omega arith
 
-pub dart-own : (d : ℕ) → dart (point d) (direction d) ≡ d
+pub dart_own : (d : ℕ) → dart (point d) (direction d) ≡ d
 unfolding dart point direction
-dart-own d = omega arith
+dart_own d = omega arith
 
-pub direction-below : (d : ℕ) → direction d < 4
+pub direction_below : (d : ℕ) → direction d < 4
 unfolding direction
-direction-below d = omega arith
+direction_below d = omega arith
 
-pub turned-below : (k i : ℕ) → turned k i < 4
+pub turned_below : (k i : ℕ) → turned k i < 4
 unfolding turned
-turned-below k i = omega arith
+turned_below k i = omega arith
 
 pub turned_none : (k : ℕ) → k < 4 → turned k 0 ≡ k
 unfolding turned
 turned_none k h = omega arith
 
-pub turned-back : (k i : ℕ) → turned (turned k (suc i)) 3 ≡ turned k i
+pub turned_back : (k i : ℕ) → turned (turned k (suc i)) 3 ≡ turned k i
 unfolding turned
-turned-back k i = omega arith
+turned_back k i = omega arith
 
 pub turned_round : (k : ℕ) → turned k 4 ≡ turned k 0
 unfolding turned
 turned_round k = omega arith
 
-pub point-reversal : (w d : ℕ) → point (reversal w d) ≡ far w d
+pub point_reversal : (w d : ℕ) → point (reversal w d) ≡ far w d
 unfolding reversal
-point-reversal w d = point-dart (far w d) (turned (direction d) 2) (turned-below (direction d) 2)
+point_reversal w d = point_dart (far w d) (turned (direction d) 2) (turned_below (direction d) 2)
 
-pub direction-reversal : (w d : ℕ) → direction (reversal w d) ≡ turned (direction d) 2
+pub direction_reversal : (w d : ℕ) → direction (reversal w d) ≡ turned (direction d) 2
 unfolding reversal
-direction-reversal w d = direction-dart (far w d) (turned (direction d) 2) (turned-below (direction d) 2)
+direction_reversal w d = direction_dart (far w d) (turned (direction d) 2) (turned_below (direction d) 2)
 
 unfoldable pub place : ℕ → ℕ → ℕ → ℕ
 place w x y = y * (w + 1) + x
@@ -75,78 +75,78 @@ row w x y h =
     let z : 0 < w + 1 = omega arith in
     mul-add-div_right z y x ∙ ap (λ i. y + i) (div-eq_of_lt l) ∙ add-zero y
 
-pub place-own : (w p : ℕ) → place w (p % (w + 1)) (p / (w + 1)) ≡ p
+pub place_own : (w p : ℕ) → place w (p % (w + 1)) (p / (w + 1)) ≡ p
 unfolding place
-place-own w p = div-add-mod' p (w + 1)
+place_own w p = div-add-mod' p (w + 1)
 
-pub column-below : (w p : ℕ) → p % (w + 1) ≤ w
-column-below w p = let z : 0 < w + 1 = omega arith in omega (arith, mod-lt p z)
+pub column_below : (w p : ℕ) → p % (w + 1) ≤ w
+column_below w p = let z : 0 < w + 1 = omega arith in omega (arith, mod-lt p z)
 
 -- every dart leaves some place east, south, west or north
-pub every-dart : (w : ℕ) (P : ℕ → Type 0)
+pub every_dart : (w : ℕ) (P : ℕ → Type 0)
     → ((x y k : ℕ) → x ≤ w → k < 4 → P (dart (place w x y) k)) → (d : ℕ) → P d
-every-dart w P f d =
+every_dart w P f d =
     let p : ℕ = point d in
-    let t = f (p % (w + 1)) (p / (w + 1)) (direction d) (column-below w p) (direction-below d) in
-    subst P (ap (λ q. dart q (direction d)) (place-own w p) ∙ dart-own d) t
+    let t = f (p % (w + 1)) (p / (w + 1)) (direction d) (column_below w p) (direction_below d) in
+    subst P (ap (λ q. dart q (direction d)) (place_own w p) ∙ dart_own d) t
 
 -- the place beside a place
 module _ (w x y : ℕ) where
-  pub beside-east : beside w (place w x y) 0 ≡ place w (suc x) y
+  pub beside_east : beside w (place w x y) 0 ≡ place w (suc x) y
   unfolding beside place
-  beside-east = omega arith
+  beside_east = omega arith
 
-  pub beside-south : beside w (place w x y) 1 ≡ place w x (suc y)
+  pub beside_south : beside w (place w x y) 1 ≡ place w x (suc y)
   unfolding beside place
-  beside-south = rw suc-mul (omega arith)
+  beside_south = rw suc-mul (omega arith)
 
-  pub beside-west : beside w (place w (suc x) y) 2 ≡ place w x y
+  pub beside_west : beside w (place w (suc x) y) 2 ≡ place w x y
   unfolding beside place
-  beside-west = omega arith
+  beside_west = omega arith
 
-  pub beside-north : beside w (place w x (suc y)) 3 ≡ place w x y
+  pub beside_north : beside w (place w x (suc y)) 3 ≡ place w x y
   unfolding beside place
-  beside-north = rw suc-mul (omega arith)
+  beside_north = rw suc-mul (omega arith)
 
-pub far-dart : (w p k : ℕ) → k < 4 → far w (dart p k) ≡ beside w p k
+pub far_dart : (w p k : ℕ) → k < 4 → far w (dart p k) ≡ beside w p k
 unfolding far
-far-dart w p k h = ap₂ (beside w) (point-dart p k h) (direction-dart p k h)
+far_dart w p k h = ap₂ (beside w) (point_dart p k h) (direction_dart p k h)
 
-pub reversal-dart : (w p k : ℕ) → k < 4 → reversal w (dart p k) ≡ dart (beside w p k) (turned k 2)
+pub reversal_dart : (w p k : ℕ) → k < 4 → reversal w (dart p k) ≡ dart (beside w p k) (turned k 2)
 unfolding reversal
-reversal-dart w p k h = ap₂ dart (far-dart w p k h) (ap (λ j. turned j 2) (direction-dart p k h))
+reversal_dart w p k h = ap₂ dart (far_dart w p k h) (ap (λ j. turned j 2) (direction_dart p k h))
 
 -- the dart east of a point, and the dart west that leads back to it
-pub east-back : (w p : ℕ) → reversal w (dart p 0) ≡ dart (p + 1) 2
+pub east_back : (w p : ℕ) → reversal w (dart p 0) ≡ dart (p + 1) 2
 unfolding beside turned
-east-back w p = reversal-dart w p 0 (lit< tt)
+east_back w p = reversal_dart w p 0 (lit< tt)
 
-pub west-back : (w p : ℕ) → reversal w (dart (p + 1) 2) ≡ dart p 0
+pub west_back : (w p : ℕ) → reversal w (dart (p + 1) 2) ≡ dart p 0
 unfolding beside turned
-west-back w p = reversal-dart w (p + 1) 2 (lit< tt) ∙ ap (λ q. dart q 0) (let e : p + 1 - 1 ≡ p = omega arith in e)
+west_back w p = reversal_dart w (p + 1) 2 (lit< tt) ∙ ap (λ q. dart q 0) (let e : p + 1 - 1 ≡ p = omega arith in e)
 
 -- the reversal of a dart that leaves a place
 module _ (w x y : ℕ) where
-  pub reversal-east : reversal w (dart (place w x y) 0) ≡ dart (place w (suc x) y) 2
+  pub reversal_east : reversal w (dart (place w x y) 0) ≡ dart (place w (suc x) y) 2
   unfolding turned
-  reversal-east = reversal-dart w (place w x y) 0 (lit< tt) ∙ ap (λ p. dart p 2) (beside-east w x y)
+  reversal_east = reversal_dart w (place w x y) 0 (lit< tt) ∙ ap (λ p. dart p 2) (beside_east w x y)
 
-  pub reversal-south : reversal w (dart (place w x y) 1) ≡ dart (place w x (suc y)) 3
+  pub reversal_south : reversal w (dart (place w x y) 1) ≡ dart (place w x (suc y)) 3
   unfolding turned
-  reversal-south = reversal-dart w (place w x y) 1 (lit< tt) ∙ ap (λ p. dart p 3) (beside-south w x y)
+  reversal_south = reversal_dart w (place w x y) 1 (lit< tt) ∙ ap (λ p. dart p 3) (beside_south w x y)
 
-  pub reversal-west : reversal w (dart (place w (suc x) y) 2) ≡ dart (place w x y) 0
+  pub reversal_west : reversal w (dart (place w (suc x) y) 2) ≡ dart (place w x y) 0
   unfolding turned
-  reversal-west = reversal-dart w (place w (suc x) y) 2 (lit< tt) ∙ ap (λ p. dart p 0) (beside-west w x y)
+  reversal_west = reversal_dart w (place w (suc x) y) 2 (lit< tt) ∙ ap (λ p. dart p 0) (beside_west w x y)
 
-  pub reversal-north : reversal w (dart (place w x (suc y)) 3) ≡ dart (place w x y) 1
+  pub reversal_north : reversal w (dart (place w x (suc y)) 3) ≡ dart (place w x y) 1
   unfolding turned
-  reversal-north = reversal-dart w (place w x (suc y)) 3 (lit< tt) ∙ ap (λ p. dart p 1) (beside-north w x y)
+  reversal_north = reversal_dart w (place w x (suc y)) 3 (lit< tt) ∙ ap (λ p. dart p 1) (beside_north w x y)
 
-pub line-dart : (w h x y k : ℕ) → x ≤ w → k < 4 → line w h (dart (place w x y) k) ≡ (leb y h && stays w h x y k)
+pub line_dart : (w h x y k : ℕ) → x ≤ w → k < 4 → line w h (dart (place w x y) k) ≡ (leb y h && stays w h x y k)
 unfolding line
-line-dart w h x y k l b =
-    rw (point-dart (place w x y) k b, direction-dart (place w x y) k b, column w x y l, row w x y l)
+line_dart w h x y k l b =
+    rw (point_dart (place w x y) k b, direction_dart (place w x y) k b, column w x y l, row w x y l)
 
 -- a line is one of four: along a row east or west, along a column south or north
 module _ (w h : ℕ) (P : ℕ → Type 0)
@@ -154,73 +154,73 @@ module _ (w h : ℕ) (P : ℕ → Type 0)
     (south : (x y : ℕ) → x ≤ w → y < h → P (dart (place w x y) 1))
     (west : (x y : ℕ) → x < w → y ≤ h → P (dart (place w (suc x) y) 2))
     (north : (x y : ℕ) → x ≤ w → y < h → P (dart (place w x (suc y)) 3)) where
-  of-stays : (x y k : ℕ) → x ≤ w → k < 4 → y ≤ h → stays w h x y k ≡ true → P (dart (place w x y) k)
+  of_stays : (x y k : ℕ) → x ≤ w → k < 4 → y ≤ h → stays w h x y k ≡ true → P (dart (place w x y) k)
   unfolding stays
-  of-stays x y zero l b v e = east x y (ltb-true x w e) v
-  of-stays x y (suc zero) l b v e = south x y l (ltb-true y h e)
-  of-stays zero y (suc (suc zero)) l b v e = absurd (omega (arith, ltb-true 0 0 e))
-  of-stays (suc x) y (suc (suc zero)) l b v e = west x y l v
-  of-stays x zero (suc (suc (suc zero))) l b v e = absurd (omega (arith, ltb-true 0 0 e))
-  of-stays x (suc y) (suc (suc (suc zero))) l b v e = north x y l v
-  of-stays x y (suc (suc (suc (suc k)))) l b v e = absurd (omega arith)
+  of_stays x y zero l b v e = east x y (ltb-true x w e) v
+  of_stays x y (suc zero) l b v e = south x y l (ltb-true y h e)
+  of_stays zero y (suc (suc zero)) l b v e = absurd (omega (arith, ltb-true 0 0 e))
+  of_stays (suc x) y (suc (suc zero)) l b v e = west x y l v
+  of_stays x zero (suc (suc (suc zero))) l b v e = absurd (omega (arith, ltb-true 0 0 e))
+  of_stays x (suc y) (suc (suc (suc zero))) l b v e = north x y l v
+  of_stays x y (suc (suc (suc (suc k)))) l b v e = absurd (omega arith)
 
-  pub every-line : (d : ℕ) → line w h d ≡ true → P d
-  every-line = every-dart w (λ d. line w h d ≡ true → P d) (λ x y k l b e. at x y k l b (rw (line-dart w h x y k l b) at e))
+  pub every_line : (d : ℕ) → line w h d ≡ true → P d
+  every_line = every_dart w (λ d. line w h d ≡ true → P d) (λ x y k l b e. at x y k l b (rw (line_dart w h x y k l b) at e))
     where
       at : (x y k : ℕ) → x ≤ w → k < 4 → (leb y h && stays w h x y k) ≡ true → P (dart (place w x y) k)
       at x y k l b e =
           let both = (and-eq-true_iff (leb y h) (stays w h x y k)).0 e in
-          of-stays x y k l b (leb-true y h both.0) both.1
+          of_stays x y k l b (leb-true y h both.0) both.1
 
 -- the four lines are on the sheet
 module _ (w h x y : ℕ) where
-  pub line-east : x < w → y ≤ h → line w h (dart (place w x y) 0) ≡ true
+  pub line_east : x < w → y ≤ h → line w h (dart (place w x y) 0) ≡ true
   unfolding stays
-  line-east a b =
+  line_east a b =
       let l : x ≤ w = omega arith in
-      rw (line-dart w h x y 0 l (lit< tt), le-leb y h b) (lt-ltb x w a)
+      rw (line_dart w h x y 0 l (lit< tt), le-leb y h b) (lt-ltb x w a)
 
-  pub line-south : x ≤ w → y < h → line w h (dart (place w x y) 1) ≡ true
+  pub line_south : x ≤ w → y < h → line w h (dart (place w x y) 1) ≡ true
   unfolding stays
-  line-south a b =
+  line_south a b =
       let l : y ≤ h = omega arith in
-      rw (line-dart w h x y 1 a (lit< tt), le-leb y h l) (lt-ltb y h b)
+      rw (line_dart w h x y 1 a (lit< tt), le-leb y h l) (lt-ltb y h b)
 
-  pub line-west : x < w → y ≤ h → line w h (dart (place w (suc x) y) 2) ≡ true
+  pub line_west : x < w → y ≤ h → line w h (dart (place w (suc x) y) 2) ≡ true
   unfolding stays
-  line-west a b = rw (line-dart w h (suc x) y 2 a (lit< tt), le-leb y h b) (lt-ltb 0 (suc x) (omega arith))
+  line_west a b = rw (line_dart w h (suc x) y 2 a (lit< tt), le-leb y h b) (lt-ltb 0 (suc x) (omega arith))
 
-  pub line-north : x ≤ w → y < h → line w h (dart (place w x (suc y)) 3) ≡ true
+  pub line_north : x ≤ w → y < h → line w h (dart (place w x (suc y)) 3) ≡ true
   unfolding stays
-  line-north a b = rw (line-dart w h x (suc y) 3 a (lit< tt), le-leb (suc y) h b) (lt-ltb 0 (suc y) (omega arith))
+  line_north a b = rw (line_dart w h x (suc y) 3 a (lit< tt), le-leb (suc y) h b) (lt-ltb 0 (suc y) (omega arith))
 
 module _ (w h : ℕ) where
-  pub line-reversal : (d : ℕ) → line w h d ≡ true → line w h (reversal w d) ≡ true
-  line-reversal = every-line w h (λ d. line w h (reversal w d) ≡ true)
-      (λ x y a b. rw (reversal-east w x y) (line-west w h x y a b))
-      (λ x y a b. rw (reversal-south w x y) (line-north w h x y a b))
-      (λ x y a b. rw (reversal-west w x y) (line-east w h x y a b))
-      (λ x y a b. rw (reversal-north w x y) (line-south w h x y a b))
+  pub line_reversal : (d : ℕ) → line w h d ≡ true → line w h (reversal w d) ≡ true
+  line_reversal = every_line w h (λ d. line w h (reversal w d) ≡ true)
+      (λ x y a b. rw (reversal_east w x y) (line_west w h x y a b))
+      (λ x y a b. rw (reversal_south w x y) (line_north w h x y a b))
+      (λ x y a b. rw (reversal_west w x y) (line_east w h x y a b))
+      (λ x y a b. rw (reversal_north w x y) (line_south w h x y a b))
 
-  pub reversal-twice : (d : ℕ) → line w h d ≡ true → reversal w (reversal w d) ≡ d
-  reversal-twice = every-line w h (λ d. reversal w (reversal w d) ≡ d)
-      (λ x y a b. rw (reversal-east w x y) (reversal-west w x y))
-      (λ x y a b. rw (reversal-south w x y) (reversal-north w x y))
-      (λ x y a b. rw (reversal-west w x y) (reversal-east w x y))
-      (λ x y a b. rw (reversal-north w x y) (reversal-south w x y))
+  pub reversal_twice : (d : ℕ) → line w h d ≡ true → reversal w (reversal w d) ≡ d
+  reversal_twice = every_line w h (λ d. reversal w (reversal w d) ≡ d)
+      (λ x y a b. rw (reversal_east w x y) (reversal_west w x y))
+      (λ x y a b. rw (reversal_south w x y) (reversal_north w x y))
+      (λ x y a b. rw (reversal_west w x y) (reversal_east w x y))
+      (λ x y a b. rw (reversal_north w x y) (reversal_south w x y))
 
-  pub place-below : (x y : ℕ) → x ≤ w → y ≤ h → place w x y < points w h
+  pub place_below : (x y : ℕ) → x ≤ w → y ≤ h → place w x y < points w h
   unfolding place points
-  place-below x y a b =
+  place_below x y a b =
       rw (mul_comm (w + 1) (h + 1), add-one h, suc-mul h (w + 1)) (omega (arith, mul-le-mul_right (w + 1) b))
 
-  pub dart-below : (p k : ℕ) → p < points w h → k < 4 → dart p k < slots w h
+  pub dart_below : (p k : ℕ) → p < points w h → k < 4 → dart p k < slots w h
   unfolding dart slots
-  dart-below p k a b = omega arith
+  dart_below p k a b = omega arith
 
-  pub line-below : (d : ℕ) → line w h d ≡ true → d < slots w h
-  line-below = every-line w h (λ d. d < slots w h)
-      (λ x y a b. dart-below (place w x y) 0 (place-below x y (omega arith) b) (lit< tt))
-      (λ x y a b. dart-below (place w x y) 1 (place-below x y a (omega arith)) (lit< tt))
-      (λ x y a b. dart-below (place w (suc x) y) 2 (place-below (suc x) y a b) (lit< tt))
-      (λ x y a b. dart-below (place w x (suc y)) 3 (place-below x (suc y) a b) (lit< tt))
+  pub line_below : (d : ℕ) → line w h d ≡ true → d < slots w h
+  line_below = every_line w h (λ d. d < slots w h)
+      (λ x y a b. dart_below (place w x y) 0 (place_below x y (omega arith) b) (lit< tt))
+      (λ x y a b. dart_below (place w x y) 1 (place_below x y a (omega arith)) (lit< tt))
+      (λ x y a b. dart_below (place w (suc x) y) 2 (place_below (suc x) y a b) (lit< tt))
+      (λ x y a b. dart_below (place w x (suc y)) 3 (place_below x (suc y) a b) (lit< tt))

@@ -14,10 +14,10 @@ use Rattle.point_darts.specs.Point.{bits, half, has, degree, inline}
 every : (Bool → Bool) → Bool
 every f = f true && f false
 
-every-at : (f : Bool → Bool) → every f ≡ true → (b : Bool) → f b ≡ true
+every_at : (f : Bool → Bool) → every f ≡ true → (b : Bool) → f b ≡ true
 unfolding every
-every-at f e true = and_left (f true) (f false) e
-every-at f e false = and_right (f true) (f false) e
+every_at f e true = and_left (f true) (f false) e
+every_at f e false = and_right (f true) (f false) e
 
 -- the last bit of a number, as a number
 odd : (x : ℕ) → x < 2 → number (eqb x 1) ≡ x
@@ -25,9 +25,9 @@ odd zero h = refl
 odd (suc zero) h = refl
 odd (suc (suc x)) h = absurd (omega arith)
 
-pub degree-sum : (m : ℕ) → m % 2 + m / 2 % 2 + m / 2 / 2 % 2 + m / 2 / 2 / 2 % 2 ≡ degree m
+pub degree_sum : (m : ℕ) → m % 2 + m / 2 % 2 + m / 2 / 2 % 2 + m / 2 / 2 / 2 % 2 ≡ degree m
 unfolding degree has half
-degree-sum m =
+degree_sum m =
     rw (
       odd (m % 2) (omega arith),
       odd (m / 2 % 2) (omega arith),
@@ -36,24 +36,24 @@ degree-sum m =
     )
 
 -- a test at four lines, each present or not
-every-four : (Bool → Bool → Bool → Bool → Bool) → Bool
-every-four f = every (λ a. every (λ b. every (λ c. every (λ d. f a b c d))))
+every_four : (Bool → Bool → Bool → Bool → Bool) → Bool
+every_four f = every (λ a. every (λ b. every (λ c. every (λ d. f a b c d))))
 
-every-four-at : (f : Bool → Bool → Bool → Bool → Bool) → every-four f ≡ true → (a b c d : Bool) → f a b c d ≡ true
-unfolding every-four
-every-four-at f e a b c d =
-    every-at (f a b c)
-    (every-at (λ c. every (λ d. f a b c d))
-    (every-at (λ b. every (λ c. every (λ d. f a b c d))) (every-at (λ a. every (λ b. every (λ c. every (λ d. f a b c d)))) e a) b)
+every_four_at : (f : Bool → Bool → Bool → Bool → Bool) → every_four f ≡ true → (a b c d : Bool) → f a b c d ≡ true
+unfolding every_four
+every_four_at f e a b c d =
+    every_at (f a b c)
+    (every_at (λ c. every (λ d. f a b c d))
+    (every_at (λ b. every (λ c. every (λ d. f a b c d))) (every_at (λ a. every (λ b. every (λ c. every (λ d. f a b c d)))) e a) b)
     c)
     d
 
-inline-four : (e s w n : Bool) → 5 * ((number e + number w) / 2) + 10 * ((number s + number n) / 2)
+inline_four : (e s w n : Bool) → 5 * ((number e + number w) / 2) + 10 * ((number s + number n) / 2)
     ≡ number (e && w) + 2 * number (s && n) + 4 * number (w && e) + 8 * number (n && s)
-unfolding every every-four
-inline-four e s w n =
+unfolding every every_four
+inline_four e s w n =
     eqb-true _ _
-    (every-four-at
+    (every_four_at
     (λ e s w n. eqb (5 * ((number e + number w) / 2) + 10 * ((number s + number n) / 2))
     (number (e && w) + 2 * number (s && n) + 4 * number (w && e) + 8 * number (n && s)))
     refl
@@ -62,11 +62,11 @@ inline-four e s w n =
     w
     n)
 
-pub inline-sum : (m : ℕ) → 5 * ((m % 2 + m / 2 / 2 % 2) / 2) + 10 * ((m / 2 % 2 + m / 2 / 2 / 2 % 2) / 2) ≡ inline m
+pub inline_sum : (m : ℕ) → 5 * ((m % 2 + m / 2 / 2 % 2) / 2) + 10 * ((m / 2 % 2 + m / 2 / 2 / 2 % 2) / 2) ≡ inline m
 unfolding inline bits has half turned
-inline-sum m =
+inline_sum m =
     let e = odd (m % 2) (omega arith) in
     let s = odd (m / 2 % 2) (omega arith) in
     let w = odd (m / 2 / 2 % 2) (omega arith) in
     let n = odd (m / 2 / 2 / 2 % 2) (omega arith) in
-    rw (e, s, w, n) at (inline-four (eqb (m % 2) 1) (eqb (m / 2 % 2) 1) (eqb (m / 2 / 2 % 2) 1) (eqb (m / 2 / 2 / 2 % 2) 1))
+    rw (e, s, w, n) at (inline_four (eqb (m % 2) 1) (eqb (m / 2 % 2) 1) (eqb (m / 2 / 2 % 2) 1) (eqb (m / 2 / 2 / 2 % 2) 1))

@@ -7,11 +7,11 @@ use Rattle.sheet_size.specs.Size.{within}
 use Rattle.point_darts.specs.Dart.{point, direction, stays, line}
 
 module _ (w h d p : ℕ) (e : within w h ≡ true) (f : p ≡ point d) where
-  pub off-rows : h < p / (w + 1) → false ≡ (within w h && line w h d)
+  pub off_rows : h < p / (w + 1) → false ≡ (within w h && line w h d)
   unfolding line
-  off-rows b = rw (e, ← f, lt-leb _ _ b)
+  off_rows b = rw (e, ← f, lt-leb _ _ b)
 
-  pub on-rows : p / (w + 1) ≤ h → (k : ℕ) → k ≡ direction d → (b : Bool) → b ≡ stays w h (p % (w + 1)) (p / (w + 1)) k
+  pub on_rows : p / (w + 1) ≤ h → (k : ℕ) → k ≡ direction d → (b : Bool) → b ≡ stays w h (p % (w + 1)) (p / (w + 1)) k
       → b ≡ (within w h && line w h d)
   unfolding line
-  on-rows c k g b s = rw (e, ← f, le-leb _ _ c, ← g) s
+  on_rows c k g b s = rw (e, ← f, le-leb _ _ c, ← g) s

@@ -14,15 +14,15 @@ use lib.ListN.{get_or}
 use borrow.Author.Tests.{eqb-true, ltb-true, eq-eqb, ne_eqb}
 use Rattle.point_darts.specs.Dart.{turned}
 use Rattle.point_darts.specs.Point.{bits, half, has, degree, inline}
-use Rattle.point_rules.specs.Turn.{without, impossible, kind, becomes, becomesOf, pointTable, becoming}
-use Rattle.point_rules.proofs.Entry.{becomes-entry}
-use Rattle.point_rules.proofs.Turns.{all, all-at, same, same_at}
+use Rattle.point_rules.specs.Turn.{without, impossible, kind, becomes, becomes_of, point_table, becoming}
+use Rattle.point_rules.proofs.Entry.{becomes_entry}
+use Rattle.point_rules.proofs.Turns.{all, all_at, same, same_at}
 
 abbrev both : (ℕ → ℕ → Bool) → Bool
 both f = all 16 (λ m. all 16 (f m))
 
 both_at : (f : ℕ → ℕ → Bool) → both f ≡ true → (m l : ℕ) → m < 16 → l < 16 → f m l ≡ true
-both_at f e m l a b = all-at 16 (f m) (all-at 16 (λ i. all 16 (f i)) e m a) l b
+both_at f e m l a b = all_at 16 (f m) (all_at 16 (λ i. all 16 (f i)) e m a) l b
 
 -- the table says 1 or 2 exactly where two lines are left
 abbrev two : ℕ → ℕ → Bool
@@ -41,35 +41,35 @@ abbrev either : ℕ → ℕ → Bool
 either m l = eqb (bit_or m l) (l + without m l) && ltb (l + without m l) 16
 
 all_two : both two ≡ true
-unfolding becoming becomesOf becomes without impossible kind turned bits half has degree inline
+unfolding becoming becomes_of becomes without impossible kind turned bits half has degree inline
 all_two = refl
 
-all-four : both four ≡ true
-unfolding becoming becomesOf becomes without impossible kind turned bits half has degree inline
-all-four = refl
+all_four : both four ≡ true
+unfolding becoming becomes_of becomes without impossible kind turned bits half has degree inline
+all_four = refl
 
-all-fewer : both fewer ≡ true
-unfolding becoming becomesOf becomes without impossible kind turned bits half has degree inline
-all-fewer = refl
+all_fewer : both fewer ≡ true
+unfolding becoming becomes_of becomes without impossible kind turned bits half has degree inline
+all_fewer = refl
 
 all_either : both either ≡ true
 unfolding without bits half has
 all_either = refl
 
 module _ (m l : ℕ) (a : m < 16) (b : l < 16) where
-  pub becoming-two : (eqb (becoming m l) 1 || eqb (becoming m l) 2) ≡ eqb (degree l) 2
-  becoming-two = same_at _ _ (both_at two all_two m l a b)
+  pub becoming_two : (eqb (becoming m l) 1 || eqb (becoming m l) 2) ≡ eqb (degree l) 2
+  becoming_two = same_at _ _ (both_at two all_two m l a b)
 
   -- no line is left that was not there
   module _ (e : without l m ≡ 0) where
-    pub becoming-four : degree m ≢ 1 → degree l ≢ 1 → becoming m l ≢ 4
-    becoming-four p q z =
+    pub becoming_four : degree m ≢ 1 → degree l ≢ 1 → becoming m l ≢ 4
+    becoming_four p q z =
         false≢true
         (rw (eq-eqb (without l m) 0 e, eq-eqb (becoming m l) 4 z, ne_eqb (degree m) 1 p, ne_eqb (degree l) 1 q)
-        at (both_at four all-four m l a b))
+        at (both_at four all_four m l a b))
 
-    pub becoming-taken : becoming m l ≡ becomes m (without m l)
-    becoming-taken = eqb-true _ _ (rw (eq-eqb (without l m) 0 e) at (both_at fewer all-fewer m l a b))
+    pub becoming_taken : becoming m l ≡ becomes m (without m l)
+    becoming_taken = eqb-true _ _ (rw (eq-eqb (without l m) 0 e) at (both_at fewer all_fewer m l a b))
 
   split : (bit_or m l ≡ l + without m l) × (l + without m l < 16)
   split =
@@ -78,15 +78,15 @@ module _ (m l : ℕ) (a : m < 16) (b : l < 16) where
       (eqb-true _ _ p, ltb-true _ _ q)
 
   -- the entry, read at the place of the lines that were there and of those of them that are not left
-  pub either-below : bit_or m l < 16
-  either-below = rw split.0 split.1
+  pub either_below : bit_or m l < 16
+  either_below = rw split.0 split.1
 
   pub either_left : l ≤ bit_or m l
   either_left = rw split.0 (omega arith)
 
-  pub becoming-entry : (xs : List ℕ) → xs ≡ pointTable → get_or xs (16 * bit_or m l + (bit_or m l - l)) 0 ≡ becoming m l
+  pub becoming_entry : (xs : List ℕ) → xs ≡ point_table → get_or xs (16 * bit_or m l + (bit_or m l - l)) 0 ≡ becoming m l
   unfolding becoming
-  becoming-entry xs e =
+  becoming_entry xs e =
       let (p, q) = split in
       let t : l + without m l - l ≡ without m l = omega arith in
-      rw (p, t) (becomes-entry xs (l + without m l) (without m l) e q (omega arith))
+      rw (p, t) (becomes_entry xs (l + without m l) (without m l) e q (omega arith))

@@ -2,12 +2,12 @@
 --   turning m k     == coming in direction k, the first of right turn, straight on, left turn and back that leads to a line of m
 --   led k v         == the direction in which the turn v leads from direction k; 4 for none
 --   turn m k        == the direction of that line of m
---   isRight, isLeft == of a turn
+--   is_right, is_left == of a turn
 --   without m t     == the lines of m that are not among the lines t
 --   becomes m t     == what a point with the lines m becomes when the lines t are taken
---   becomesAt       == the rule of the point table over its places: at 16 m + t
---   turningOf, turn_of, becomesOf == the rules for any numbers: none, or 4, where one is no mask or no direction
---   pointTable      == the point table
+--   becomes_at       == the rule of the point table over its places: at 16 m + t
+--   turning_of, turn_of, becomes_of == the rules for any numbers: none, or 4, where one is no mask or no direction
+--   point_table      == the point table
 --   becoming m l    == what a point becomes that had the lines m and has the lines l left
 --   kinding         == what the point table says of each mask where no line is taken
 use Rattle.std.specs.Prelude.{Bool, true, false, cond, not, ◌&&◌, ◌||◌, List, ℕ, ◌+◌, ◌/◌, ◌%◌, eqb, ltb}
@@ -33,19 +33,19 @@ led k Turn.None = 4
 unfoldable pub turn : ℕ → ℕ → ℕ
 turn m k = led k (turning m k)
 
-unfoldable pub isRight : Turn → Bool
-isRight Turn.Right = true
-isRight Turn.Straight = false
-isRight Turn.Left = false
-isRight Turn.Back = false
-isRight Turn.None = false
+unfoldable pub is_right : Turn → Bool
+is_right Turn.Right = true
+is_right Turn.Straight = false
+is_right Turn.Left = false
+is_right Turn.Back = false
+is_right Turn.None = false
 
-unfoldable pub isLeft : Turn → Bool
-isLeft Turn.Right = false
-isLeft Turn.Straight = false
-isLeft Turn.Left = true
-isLeft Turn.Back = false
-isLeft Turn.None = false
+unfoldable pub is_left : Turn → Bool
+is_left Turn.Right = false
+is_left Turn.Straight = false
+is_left Turn.Left = true
+is_left Turn.Back = false
+is_left Turn.None = false
 
 unfoldable pub without : ℕ → ℕ → ℕ
 without m t = bits (λ k. has m k && not (has t k))
@@ -61,23 +61,23 @@ kind m = cond (eqb m 0) 0 (cond (ltb 2 (degree m)) 3 (cond (eqb (inline m) 0) 2 
 unfoldable pub becomes : ℕ → ℕ → ℕ
 becomes m t = cond (impossible m t) 4 (kind (without m t))
 
-unfoldable pub becomesAt : ℕ → ℕ
-becomesAt i = becomes (i / 16) (i % 16)
+unfoldable pub becomes_at : ℕ → ℕ
+becomes_at i = becomes (i / 16) (i % 16)
 
-unfoldable pub turningOf : ℕ → ℕ → Turn
-turningOf m k = cond (ltb m 16 && ltb k 4) (turning m k) Turn.None
+unfoldable pub turning_of : ℕ → ℕ → Turn
+turning_of m k = cond (ltb m 16 && ltb k 4) (turning m k) Turn.None
 
 unfoldable pub turn_of : ℕ → ℕ → ℕ
-turn_of m k = led k (turningOf m k)
+turn_of m k = led k (turning_of m k)
 
-unfoldable pub becomesOf : ℕ → ℕ → ℕ
-becomesOf m t = cond (ltb m 16 && ltb t 16) (becomes m t) 4
+unfoldable pub becomes_of : ℕ → ℕ → ℕ
+becomes_of m t = cond (ltb m 16 && ltb t 16) (becomes m t) 4
 
-unfoldable pub pointTable : List ℕ
-pointTable = table 256 becomesAt
+unfoldable pub point_table : List ℕ
+point_table = table 256 becomes_at
 
 unfoldable pub becoming : ℕ → ℕ → ℕ
-becoming m l = let taken = without m l in becomesOf (l + taken) taken
+becoming m l = let taken = without m l in becomes_of (l + taken) taken
 
 unfoldable pub kinding : List ℕ
-kinding = table 16 (λ m. becomesOf m 0)
+kinding = table 16 (λ m. becomes_of m 0)

@@ -1,6 +1,6 @@
 ghost use Rattle.std.specs.Prelude.{◌≡◌, ◌<◌};
 ghost use Rattle.point_darts.specs.Point.{has};
-ghost use Rattle.point_rules.specs.Turn.{turningOf, turn_of, pointTable, kinding};
+ghost use Rattle.point_rules.specs.Turn.{turning_of, turn_of, point_table, kinding};
 
 // No direction: what next_line answers where no line is present.
 const NONE: u16 = 4;
@@ -54,7 +54,7 @@ fn has(lines: u16, direction: u16) -> bool
 // Of the lines present at a point, the first of right turn, straight on, left turn and back, for a heading, and which of them it
 // is; none where no line is present, or a number is no mask or no heading.
 pub fn next_line(present: u16, heading: u16) -> NextLine
-    ensures { (result.direction ≡ turn_of present heading) × (result.turn ≡ turningOf present heading) }
+    ensures { (result.direction ≡ turn_of present heading) × (result.turn ≡ turning_of present heading) }
 {
     if 15 < present {
         return NextLine {
@@ -103,7 +103,7 @@ pub fn next_line(present: u16, heading: u16) -> NextLine
 
 // The point table. A constant table is built anew where it is named, so who reads it at many points names it once.
 pub fn point_table() -> [u16; 256]
-    ensures { result ≡ pointTable }
+    ensures { result ≡ point_table }
 {
     POINT_TABLE
 }

@@ -1,10 +1,10 @@
 // Land decks: reading one, writing one, and the number for a row's card.
 ghost use Rattle.std.specs.Prelude.{◌≡◌, [], ◌∷◌};
-ghost use Rattle.deck_card.specs.Card.{partRefusal};
+ghost use Rattle.deck_card.specs.Card.{part_refusal};
 ghost use Rattle.deck_reading.specs.Reading.{reading};
 ghost use Rattle.deck_writing.specs.Writing.{writing};
 ghost use Rattle.paper.specs.Refusal.{ended};
-ghost use Rattle.raimenolta.specs.Slot.{carded, slottedTwice};
+ghost use Rattle.raimenolta.specs.Slot.{carded, slotted_twice};
 
 // Reads a deck into the cell table. When it is done the size holds the width and the height, and the card is left as it
 // was; a refusal leaves the size, and the card holds the number of the card. Refusals 26, then card by card 25, 20, 22, then
@@ -17,7 +17,7 @@ pub extern "C" fn raimenolta_read(
     card: &mut u16,
 ) -> u16
     ensures { ended result [] (cells.new ∷ size.new ∷ (card.new ∷ []) ∷ []) [] ≡
-        slottedTwice (carded (reading deck.now cells.old)) size.old (card.old ∷ []) }
+        slotted_twice (carded (reading deck.now cells.old)) size.old (card.old ∷ []) }
 {
     let answer = deck_reading::read::read(deck, cells);
     raimenolta_values::read::put(answer, size, card)
@@ -35,7 +35,7 @@ pub extern "C" fn raimenolta_write(width: u16, height: u16, sheet: &[u16], deck:
 // The number of the refusal for which the part of a row's card that holds its cells is empty: 1 or 20, else 0.
 #[unsafe(no_mangle)]
 pub extern "C" fn raimenolta_part_refusal(width: u16, card: &[u8]) -> u16
-    ensures { result ≡ partRefusal width card.now }
+    ensures { result ≡ part_refusal width card.now }
 {
     deck_card::card::part_refusal(width, card)
 }

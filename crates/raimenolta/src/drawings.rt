@@ -2,12 +2,12 @@
 // and the turns of its curves.
 ghost use Rattle.std.specs.Prelude.{◌≡◌, [], ◌∷◌, ◌++◌};
 ghost use Rattle.paper.specs.Refusal.{ended, seven, merged, deepened, holed};
-ghost use Rattle.paper.specs.Order.{mergedList};
+ghost use Rattle.paper.specs.Order.{merged_list};
 ghost use Rattle.table_lengths.specs.Given.{tables, works};
 ghost use Rattle.check_answer.specs.Check.{checked};
 ghost use Rattle.count_call.specs.Tally.{tallied, traced};
 ghost use Rattle.join_call.specs.Faithful.{Faithful};
-ghost use Rattle.raimenolta.specs.Slot.{slotted, placeSlotted};
+ghost use Rattle.raimenolta.specs.Slot.{slotted, place_slotted};
 
 use check_call::check;
 
@@ -118,8 +118,8 @@ pub extern "C" fn raimenolta_join_list(
         cells.new borders.new) ++
         (place.new ∷ []) ∷ [])
         (works work_a.new work_b.new work_c.new work_d.new) ≡
-        placeSlotted
-        (mergedList width height
+        place_slotted
+        (merged_list width height
         (tables next1.old side1.old next3.old other3.old parent.old
         cells.old borders.old)
         names.now

@@ -16,11 +16,11 @@ use lib.ListN.{length, set, replicate, length-set, length-replicate, get_or-repl
 use lib.Seq.{ext_get_or}
 use Rattle.point_darts.specs.Dart.{mark}
 use Rattle.paper.specs.Joining.{at}
-use Rattle.table_entries.proofs.Entries.{at-end, on-entry, at_same, at_other}
+use Rattle.table_entries.proofs.Entries.{at_end, on_entry, at_same, at_other}
 use Rattle.region_darts.specs.Lists.{Of, size, Lists}
-use Rattle.region_darts.proofs.Chain.{Chain, chain-as, chain-single, chain-other, chain_link}
-use Rattle.region_darts.proofs.Group.{Group, lists-group, groups-lists}
-use Rattle.region_darts.proofs.Size.{of-inside, of-side, size-as, size-more}
+use Rattle.region_darts.proofs.Chain.{Chain, chain_as, chain_single, chain_other, chain_link}
+use Rattle.region_darts.proofs.Group.{Group, lists_group, groups_lists}
+use Rattle.region_darts.proofs.Size.{of_inside, of_side, size_as, size_more}
 
 abbrev pub own : ℕ → ℕ
 own v = v
@@ -30,25 +30,25 @@ module _ (u t f l : List ℕ) (i x : ℕ) (off : at u i ≡ mark) (here : i < le
   abbrev more : List ℕ
   more = set u i x
 
-  of-new : Of more own x i
-  of-new = let e = at_same u i x here in record { sided = on-entry more i (λ z. some (sym e ∙ z)); group = e }
+  of_new : Of more own x i
+  of_new = let e = at_same u i x here in record { sided = on_entry more i (λ z. some (sym e ∙ z)); group = e }
 
-  of-kept : (y d : ℕ) → Of u own y d → Of more own y d
-  of-kept y d o =
-      let e = at_other u i x d (λ z. of-side u own y d o (ap (at u) z ∙ off)) in
-      record { sided = on-entry more d (λ z. of-side u own y d o (sym e ∙ z)); group = e ∙ o.group }
+  of_kept : (y d : ℕ) → Of u own y d → Of more own y d
+  of_kept y d o =
+      let e = at_other u i x d (λ z. of_side u own y d o (ap (at u) z ∙ off)) in
+      record { sided = on_entry more d (λ z. of_side u own y d o (sym e ∙ z)); group = e ∙ o.group }
 
-  of-cases : (y d : ℕ) → Of more own y d → ((d ≡ i) × (y ≡ x)) ⊎ Of u own y d
-  of-cases y d o = go (ℕ_discrete d i)
+  of_cases : (y d : ℕ) → Of more own y d → ((d ≡ i) × (y ≡ x)) ⊎ Of u own y d
+  of_cases y d o = go (ℕ_discrete d i)
     where
       go : Dec (d ≡ i) → ((d ≡ i) × (y ≡ x)) ⊎ Of u own y d
       go (yes z) = inl (z, sym o.group ∙ ap (at more) z ∙ at_same u i x here)
       go (no z) =
           let e = at_other u i x d z in
-          inr (record { sided = on-entry u d (λ w. of-side more own y d o (e ∙ w)); group = sym e ∙ o.group })
+          inr (record { sided = on_entry u d (λ w. of_side more own y d o (e ∙ w)); group = sym e ∙ o.group })
 
-  of-out : (y : ℕ) → Of u own y i → ⊥
-  of-out y o = of-side u own y i o off
+  of_out : (y : ℕ) → Of u own y i → ⊥
+  of_out y o = of_side u own y i o off
 
   module _ (r : Lists u own t f l) (same : length t ≡ length u) (room : length u ≤ mark) (free : at t i ≡ mark)
       (firsts : (y : ℕ) → at f y ≢ mark → Of u own y (at f y)) (named : x < length f) (fits : x < length l) where
@@ -56,66 +56,66 @@ module _ (u t f l : List ℕ) (i x : ℕ) (off : at u i ≡ mark) (here : i < le
     ends b = cond b (set l x i) l
 
     single : (v : ℕ) → v ≡ mark → Chain (set t i v) (λ e. e ≡ i) 1 i i
-    single v e = chain-single (set t i v) i (at_same t i v (omega arith) ∙ e) (omega arith)
+    single v e = chain_single (set t i v) i (at_same t i v (omega arith) ∙ e) (omega arith)
 
     -- the list of x: only the dart, or the dart before the others
-    own-list : (b : Bool) → eqb (at f x) mark ≡ b → Chain (set t i (at f x)) (Of more own x) (size more own x) i (at (ends b) x)
-    own-list true e =
+    own_list : (b : Bool) → eqb (at f x) mark ≡ b → Chain (set t i (at f x)) (Of more own x) (size more own x) i (at (ends b) x)
+    own_list true e =
         let z = eqb-true (at f x) mark e in
         let none : (d : ℕ) → Of u own x d → ⊥ =
-        λ d o. let h = of-inside u own x (at f x) (r.first x d o) in omega arith in
+        λ d o. let h = of_inside u own x (at f x) (r.first x d o) in omega arith in
         rw (at_same l x i fits)
-        (chain-as (set t i (at f x)) (λ d. d ≡ i) (Of more own x) 1 (size more own x) i i
-        (λ d h. rw h of-new) (λ d o. ⊎_elim (λ p. p.0) (λ p. absurd (none d p)) (of-cases x d o))
-        (omega (arith, size-more u more own own x x i (sym (length-set u i x)) (of-kept x) of-new (of-out x)))
+        (chain_as (set t i (at f x)) (λ d. d ≡ i) (Of more own x) 1 (size more own x) i i
+        (λ d h. rw h of_new) (λ d o. ⊎_elim (λ p. p.0) (λ p. absurd (none d p)) (of_cases x d o))
+        (omega (arith, size_more u more own own x x i (sym (length-set u i x)) (of_kept x) of_new (of_out x)))
         (single (at f x) z))
-    own-list false e =
+    own_list false e =
         let o = firsts x (eqb-false (at f x) mark e) in
-        chain-as (set t i (at f x)) (λ d. (d ≡ i) ⊎ Of u own x d) (Of more own x) (1 + size u own x) (size more own x) i (at l x)
-        (λ d. ⊎_elim (λ h. rw h of-new) (of-kept x d)) (λ d p. ⊎_elim (λ h. inl h.0) inr (of-cases x d p))
-        (size-more u more own own x x i (sym (length-set u i x)) (of-kept x) of-new (of-out x))
+        chain_as (set t i (at f x)) (λ d. (d ≡ i) ⊎ Of u own x d) (Of more own x) (1 + size u own x) (size more own x) i (at l x)
+        (λ d. ⊎_elim (λ h. rw h of_new) (of_kept x d)) (λ d p. ⊎_elim (λ h. inl h.0) inr (of_cases x d p))
+        (size_more u more own own x x i (sym (length-set u i x)) (of_kept x) of_new (of_out x))
         (chain_link t (omega arith) (λ d. d ≡ i) (Of u own x) 1 (size u own x) i i (at f x) (at l x)
-        (chain-single t i free (omega arith)) (lists-group u t f l own r room x (at f x) o) (of-out x) (omega arith))
+        (chain_single t i free (omega arith)) (lists_group u t f l own r room x (at f x) o) (of_out x) (omega arith))
 
-    ends-other : (y : ℕ) → y ≢ x → (b : Bool) → at (ends b) y ≡ at l y
-    ends-other y n true = at_other l x i y n
-    ends-other y n false = refl
+    ends_other : (y : ℕ) → y ≢ x → (b : Bool) → at (ends b) y ≡ at l y
+    ends_other y n true = at_other l x i y n
+    ends_other y n false = refl
 
-    put-group : (y d : ℕ) → Of more own y d → Group more (set t i (at f x)) (set f x i) (ends (eqb (at f x) mark)) own y
-    put-group y d o = go (ℕ_discrete y x)
+    put_group : (y d : ℕ) → Of more own y d → Group more (set t i (at f x)) (set f x i) (ends (eqb (at f x) mark)) own y
+    put_group y d o = go (ℕ_discrete y x)
       where
         go : Dec (y ≡ x) → Group more (set t i (at f x)) (set f x i) (ends (eqb (at f x) mark)) own y
-        go (yes z) = rw (z, at_same f x i named) (own-list (eqb (at f x) mark) refl)
+        go (yes z) = rw (z, at_same f x i named) (own_list (eqb (at f x) mark) refl)
         go (no z) =
             let back : (e : ℕ) → Of more own y e → Of u own y e =
-            λ e p. ⊎_elim (λ h. absurd (z h.1)) (λ h. h) (of-cases y e p) in
-            rw (at_other f x i y z, ends-other y z (eqb (at f x) mark))
-            (chain-as (set t i (at f x)) (Of u own y) (Of more own y) (size u own y) (size more own y) (at f y) (at l y)
-            (of-kept y) back (size-as u more own own y y (sym (length-set u i x)) (of-kept y))
-            (chain-other t (omega arith) (Of u own y) (size u own y) (at f y) (at l y) i (at f x)
-            (lists-group u t f l own r room y d (back d o)) free (of-out y)))
+            λ e p. ⊎_elim (λ h. absurd (z h.1)) (λ h. h) (of_cases y e p) in
+            rw (at_other f x i y z, ends_other y z (eqb (at f x) mark))
+            (chain_as (set t i (at f x)) (Of u own y) (Of more own y) (size u own y) (size more own y) (at f y) (at l y)
+            (of_kept y) back (size_as u more own own y y (sym (length-set u i x)) (of_kept y))
+            (chain_other t (omega arith) (Of u own y) (size u own y) (at f y) (at l y) i (at f x)
+            (lists_group u t f l own r room y d (back d o)) free (of_out y)))
 
-    put-firsts : (y : ℕ) → at (set f x i) y ≢ mark → Of more own y (at (set f x i) y)
-    put-firsts y n = go (ℕ_discrete y x)
+    put_firsts : (y : ℕ) → at (set f x i) y ≢ mark → Of more own y (at (set f x i) y)
+    put_firsts y n = go (ℕ_discrete y x)
       where
         go : Dec (y ≡ x) → Of more own y (at (set f x i) y)
-        go (yes z) = rw (z, at_same f x i named) of-new
-        go (no z) = let e = at_other f x i y z in rw e (of-kept y (at f y) (firsts y (λ w. n (e ∙ w))))
+        go (yes z) = rw (z, at_same f x i named) of_new
+        go (no z) = let e = at_other f x i y z in rw e (of_kept y (at f y) (firsts y (λ w. n (e ∙ w))))
 
-    put-lists : ((y : ℕ) → at (set f x i) y ≢ mark → Of more own y (at (set f x i) y))
+    put_lists : ((y : ℕ) → at (set f x i) y ≢ mark → Of more own y (at (set f x i) y))
         × Lists more own (set t i (at f x)) (set f x i) (ends (eqb (at f x) mark))
-    put-lists = (put-firsts, groups-lists more (set t i (at f x)) (set f x i) (ends (eqb (at f x) mark)) own put-group)
+    put_lists = (put_firsts, groups_lists more (set t i (at f x)) (set f x i) (ends (eqb (at f x) mark)) own put_group)
 
 -- what is put: after the dart the one that was first, and the dart as last where there was none
-pub put-list : (t f t' : List ℕ) (i x v : ℕ) → v ≡ at f x → t' ≡ set t i v → t' ≡ set t i (at f x)
-put-list t f t' i x v e p = rw e at p
+pub put_list : (t f t' : List ℕ) (i x v : ℕ) → v ≡ at f x → t' ≡ set t i v → t' ≡ set t i (at f x)
+put_list t f t' i x v e p = rw e at p
 
 module _ (f l : List ℕ) (i x v : ℕ) (e : v ≡ at f x) where
-  pub put-end : (l' : List ℕ) → v ≡ mark → l' ≡ set l x i → l' ≡ cond (eqb (at f x) mark) (set l x i) l
-  put-end l' z p = rw (eq-eqb (at f x) mark (sym e ∙ z)) p
+  pub put_end : (l' : List ℕ) → v ≡ mark → l' ≡ set l x i → l' ≡ cond (eqb (at f x) mark) (set l x i) l
+  put_end l' z p = rw (eq-eqb (at f x) mark (sym e ∙ z)) p
 
-  pub keep-end : v ≢ mark → l ≡ cond (eqb (at f x) mark) (set l x i) l
-  keep-end z = rw (ne_eqb (at f x) mark (λ h. z (e ∙ h)))
+  pub keep_end : v ≢ mark → l ≡ cond (eqb (at f x) mark) (set l x i) l
+  keep_end z = rw (ne_eqb (at f x) mark (λ h. z (e ∙ h)))
 
 pub record Listing (s : List ℕ) (n i : ℕ) (t f l : List ℕ) : Type 0 where
   pub read : List ℕ
@@ -131,12 +131,12 @@ pub record Listing (s : List ℕ) (n i : ℕ) (t f l : List ℕ) : Type 0 where
   pub lists : Lists read own t f l
 
 -- a table of marks alone
-at-blank : (n d : ℕ) → at (replicate n mark) d ≡ mark
-at-blank n d = go (dec_lt d n)
+at_blank : (n d : ℕ) → at (replicate n mark) d ≡ mark
+at_blank n d = go (dec_lt d n)
   where
     go : Dec (d < n) → at (replicate n mark) d ≡ mark
     go (yes h) = unfold at in get_or-replicate n d mark mark h
-    go (no h) = at-end (replicate n mark) d (rw (length-replicate n mark) (omega arith))
+    go (no h) = at_end (replicate n mark) d (rw (length-replicate n mark) (omega arith))
 
 module _ (s : List ℕ) (n : ℕ) where
   pub listing_none : (m : ℕ) (t f l : List ℕ) → t ≡ replicate m mark → f ≡ replicate n mark → m ≡ length s → length l ≡ n
@@ -150,19 +150,19 @@ module _ (s : List ℕ) (n : ℕ) where
         named = length-replicate n mark;
         ended = b;
         room = le_refl (length s);
-        before = λ d h. at-blank m d;
-        after = λ d h. at-blank m d ∙ sym (at-end s d h);
-        free = λ d h. at-blank m d;
-        firsts = λ x h. absurd (h (at-blank n x));
+        before = λ d h. at_blank m d;
+        after = λ d h. at_blank m d ∙ sym (at_end s d h);
+        free = λ d h. at_blank m d;
+        firsts = λ x h. absurd (h (at_blank n x));
         lists =
-            groups-lists (replicate m mark) (replicate m mark) (replicate n mark) l own
-            (λ x d o. absurd (of-side (replicate m mark) own x d o (at-blank m d)));
+            groups_lists (replicate m mark) (replicate m mark) (replicate n mark) l own
+            (λ x d o. absurd (of_side (replicate m mark) own x d o (at_blank m d)));
       }
 
   module _ (i j : ℕ) (t f l : List ℕ) (r : Listing s n i t f l) (e : j + 1 ≡ i) where
     -- a dart more that has no side
-    pub listing-less : at s j ≡ mark → Listing s n j t f l
-    listing-less h =
+    pub listing_less : at s j ≡ mark → Listing s n j t f l
+    listing_less h =
         record {
           read = r.read;
           long = r.long;
@@ -183,9 +183,9 @@ module _ (s : List ℕ) (n : ℕ) where
 
     -- a dart more that has side x
     module _ (x : ℕ) (h : at s j ≡ x) (some : x ≢ mark) (b : x < n) (m : length s ≤ mark) where
-      ended-more : (c : Bool) → length (cond c (set l x j) l) ≡ n
-      ended-more true = length-set l x j ∙ r.ended
-      ended-more false = r.ended
+      ended_more : (c : Bool) → length (cond c (set l x j) l) ≡ n
+      ended_more true = length-set l x j ∙ r.ended
+      ended_more false = r.ended
 
       here : j < length r.read
       here = omega (arith, r.long, r.room)
@@ -197,14 +197,14 @@ module _ (s : List ℕ) (n : ℕ) where
       set_more : Listing s n j (set t j (at f x)) (set f x j) (cond (eqb (at f x) mark) (set l x j) l)
       set_more =
           let (firsts, lists) =
-          put-lists r.read t f l j x (r.before j (omega arith)) here some r.lists (r.same ∙ sym r.long)
+          put_lists r.read t f l j x (r.before j (omega arith)) here some r.lists (r.same ∙ sym r.long)
           (omega (arith, r.long)) (r.free j (omega arith)) r.firsts (omega (arith, r.named)) (omega (arith, r.ended)) in
           record {
             read = set r.read j x;
             long = length-set r.read j x ∙ r.long;
             same = length-set t j (at f x) ∙ r.same;
             named = length-set f x j ∙ r.named;
-            ended = ended-more (eqb (at f x) mark);
+            ended = ended_more (eqb (at f x) mark);
             room = omega (arith, r.room);
             before = λ d c. at_other r.read j x d (omega arith) ∙ r.before d (omega arith);
             after = λ d c. after_more d c (ℕ_discrete d j);
@@ -213,13 +213,13 @@ module _ (s : List ℕ) (n : ℕ) where
             lists = lists;
           }
 
-      pub listing-more : (t' f' l' : List ℕ) → t' ≡ set t j (at f x) → f' ≡ set f x j
+      pub listing_more : (t' f' l' : List ℕ) → t' ≡ set t j (at f x) → f' ≡ set f x j
           → l' ≡ cond (eqb (at f x) mark) (set l x j) l → Listing s n j t' f' l'
-      listing-more t' f' l' p q k = rw (p, q, k) set_more
+      listing_more t' f' l' p q k = rw (p, q, k) set_more
 
   -- all darts
-  pub listing-all : (i : ℕ) (t f l : List ℕ) → Listing s n i t f l → i ≤ 0 → Lists s own t f l
-  listing-all i t f l r h =
+  pub listing_all : (i : ℕ) (t f l : List ℕ) → Listing s n i t f l → i ≤ 0 → Lists s own t f l
+  listing_all i t f l r h =
       let e : r.read ≡ s =
       ext_get_or mark r.read s r.long (λ d b. unfold at in r.after d (omega arith)) in
       rw e at r.lists

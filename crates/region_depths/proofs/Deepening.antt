@@ -13,41 +13,41 @@ use Rattle.paper.specs.Joining.{on}
 use Rattle.paper.specs.Enclosure.{above, depth}
 use Rattle.table_entries.proofs.Entries.{at_in}
 use Rattle.region_depths.specs.Tree.{known}
-use Rattle.region_depths.proofs.Climb.{depth_le, depth-up}
-use Rattle.region_depths.specs.Census.{countedAt, Deepened}
+use Rattle.region_depths.proofs.Climb.{depth_le, depth_up}
+use Rattle.region_depths.specs.Census.{counted_at, Deepened}
 
-or-true : (b : Bool) → (b || true) ≡ true
-or-true true = refl
-or-true false = refl
+or_true : (b : Bool) → (b || true) ≡ true
+or_true true = refl
+or_true false = refl
 
 module _ (t : List ℕ) (r : ℕ) (l : List ℕ) (d : Deepened t r l) where
-  pub deepened-outside : r ≡ 0 → 0 ≡ countedAt depth t r
-  unfolding countedAt known depth above
-  deepened-outside e = rw e
+  pub deepened_outside : r ≡ 0 → 0 ≡ counted_at depth t r
+  unfolding counted_at known depth above
+  deepened_outside e = rw e
 
-  pub deepened-mark : r ≢ 0 → get_or t r 0 ≡ mark → mark ≡ countedAt depth t r
-  unfolding countedAt known on
-  deepened-mark n e = rw (ne_eqb r 0 n, ← at_in t r d.below, eq-eqb (get_or t r 0) mark e)
+  pub deepened_mark : r ≢ 0 → get_or t r 0 ≡ mark → mark ≡ counted_at depth t r
+  unfolding counted_at known on
+  deepened_mark n e = rw (ne_eqb r 0 n, ← at_in t r d.below, eq-eqb (get_or t r 0) mark e)
 
   module _ (n : r ≢ 0) (m : get_or t r 0 ≢ mark) where
     in_use : on t r ≡ true
     unfolding on
     in_use = rw (← at_in t r d.below, ne_eqb (get_or t r 0) mark m)
 
-    pub deepened-below : get_or t r 0 < r
-    deepened-below = rw (at_in t r d.below) (d.falls.down r in_use)
+    pub deepened_below : get_or t r 0 < r
+    deepened_below = rw (at_in t r d.below) (d.falls.down r in_use)
 
     above_entry : get_or l (get_or t r 0) 0 ≡ depth t (get_or t r 0)
-    unfolding countedAt
+    unfolding counted_at
     above_entry =
-        d.entry (get_or t r 0) deepened-below
+        d.entry (get_or t r 0) deepened_below
         ∙ rw (at_in t r d.below, d.falls.held r in_use)
 
-    pub deepened-fits : get_or l (get_or t r 0) 0 + 1 < 65536
+    pub deepened_fits : get_or l (get_or t r 0) 0 + 1 < 65536
     unfolding mark
-    deepened-fits = omega (arith, above_entry, depth_le t (get_or t r 0), deepened-below, d.below, d.fits)
+    deepened_fits = omega (arith, above_entry, depth_le t (get_or t r 0), deepened_below, d.below, d.fits)
 
-    pub deepened-up : get_or l (get_or t r 0) 0 + 1 ≡ countedAt depth t r
-    unfolding countedAt known
-    deepened-up =
-        rw (in_use, or-true (eqb r 0), above_entry, at_in t r d.below) (sym (depth-up t d.falls r in_use))
+    pub deepened_up : get_or l (get_or t r 0) 0 + 1 ≡ counted_at depth t r
+    unfolding counted_at known
+    deepened_up =
+        rw (in_use, or_true (eqb r 0), above_entry, at_in t r d.below) (sym (depth_up t d.falls r in_use))

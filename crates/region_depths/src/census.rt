@@ -3,14 +3,14 @@ ghost use Rattle.std.specs.Prelude.{◌≡◌, ◌≤◌, length};
 ghost use Rattle.point_darts.specs.Dart.{mark};
 ghost use Rattle.paper.specs.Enclosure.{depth};
 ghost use Rattle.region_depths.specs.Tree.{Falls};
-ghost use Rattle.region_depths.specs.Census.{countedAt, counts, Deepened};
+ghost use Rattle.region_depths.specs.Census.{counted_at, counts, Deepened};
 
 use point_darts::dart;
 
 // The depth of a name that is the outside or in use, from those of smaller names; the mark for any other name.
 fn deeper(parent: &[u16], depths: &[u16], name: u16) -> u16
     requires { Deepened parent.now name depths.now }
-    ensures { result ≡ countedAt depth parent.now name }
+    ensures { result ≡ counted_at depth parent.now name }
 {
     if name == 0 {
         return 0;

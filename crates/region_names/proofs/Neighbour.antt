@@ -8,21 +8,21 @@ use lib.Dec.{eqb, ltb, leb}
 use Rattle.paper.specs.Name.{label, west, north}
 
 -- A rule leads m cells back, or stays at i.
-back-le : (b : Bool) (m i r : ℕ) → r ≡ cond b (i - m) i → r ≤ i
-back-le true m i r e = omega arith
-back-le false m i r e = omega arith
+back_le : (b : Bool) (m i r : ℕ) → r ≡ cond b (i - m) i → r ≤ i
+back_le true m i r e = omega arith
+back_le false m i r e = omega arith
 
 module _ (w : ℕ) (s : List ℕ) (i r : ℕ) where
   -- the column decides whether a cell has a west neighbour
-  pub west-column : (x : ℕ) → x ≡ i % w → r ≡ cond (ltb 0 x && eqb (label s i) (label s (i - 1))) (i - 1) i
+  pub west_column : (x : ℕ) → x ≡ i % w → r ≡ cond (ltb 0 x && eqb (label s i) (label s (i - 1))) (i - 1) i
       → r ≡ west w s i
   unfolding west
-  west-column x p q = rw p at q
+  west_column x p q = rw p at q
 
-  pub west-back : r ≡ west w s i → r ≤ i
+  pub west_back : r ≡ west w s i → r ≤ i
   unfolding west
-  west-back = back-le (ltb 0 (i % w) && eqb (label s i) (label s (i - 1))) 1 i r
+  west_back = back_le (ltb 0 (i % w) && eqb (label s i) (label s (i - 1))) 1 i r
 
-  pub north-back : r ≡ north w s i → r ≤ i
+  pub north_back : r ≡ north w s i → r ≤ i
   unfolding north
-  north-back = back-le (leb w i && eqb (label s i) (label s (i - w))) w i r
+  north_back = back_le (leb w i && eqb (label s i) (label s (i - w))) w i r

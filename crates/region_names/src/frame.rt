@@ -20,7 +20,7 @@ fn frame_row(width: usize, first: &[u16], names: &mut [u16], from: usize, to: us
     }
 }
 
-// The names with the outside round them: for each point the name of the cell north-west of it, in rows of width + 1,
+// The names with the outside round them: for each point the name of the cell north_west of it, in rows of width + 1,
 // with one row and one entry more. The four cells round point p are at p, p + 1, p + width + 1 and p + width + 2. No
 // first cell is later than its place. The outside is 0 everywhere first, then the names are set row by row.
 pub fn frame(width: u16, height: u16, first: &[u16], names: &mut [u16])

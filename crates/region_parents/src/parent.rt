@@ -5,7 +5,7 @@ ghost use Rattle.point_darts.specs.Dart.{mark, points, slots, dart};
 ghost use Rattle.paper.specs.Enclosure.{parent};
 ghost use Rattle.paper.specs.Joining.{at, on};
 ghost use Rattle.table_entries.specs.Row.{rowed};
-ghost use Rattle.region_parents.specs.Corner.{parentFrom};
+ghost use Rattle.region_parents.specs.Corner.{parent_from};
 ghost use Rattle.region_parents.specs.Tops.{Rising};
 
 use point_darts::dart;
@@ -24,7 +24,7 @@ fn larger(a: u16, b: u16) -> u16
 fn parent_at(width: u16, side: &[u16], tops: &[u16], corner: u16, name: u16) -> u16
     requires { (dart (corner + 1) 3 < length side.now) × (length side.now < mark) × (corner < length tops.now) ×
         Rising tops.now × (name < mark) }
-    ensures { result ≡ parentFrom width side.now tops.now corner name }
+    ensures { result ≡ parent_from width side.now tops.now corner name }
 {
     let first = side[dart::first_slot(corner)];
     let top = tops[corner as usize];
@@ -39,7 +39,7 @@ fn parents_row(width: u16, side: &[u16], tops: &[u16], parents: &mut [u16], corn
         (corner + width < length tops.now) × Rising tops.now × (name + width ≤ length parents.old) ×
         (length parents.old < mark) }
     ensures { parents.new ≡
-        rowed (λ x. parentFrom width side.now tops.now (corner + x) (name + x)) name width
+        rowed (λ x. parent_from width side.now tops.now (corner + x) (name + x)) name width
         parents.old }
 {
     let mut x: u16 = 0;

@@ -1,4 +1,4 @@
-// The tally of the cells and border lines of each name. Every point stands for the cell south-east of it. A region has as many
+// The tally of the cells and border lines of each name. Every point stands for the cell south_east of it. A region has as many
 // lines at the left of its cells as at their right, and as many at their top as at their bottom, so that those at the left and at
 // the top are counted twice.
 //

@@ -4,7 +4,7 @@ ghost use Rattle.laws.specs.Table.{table};
 ghost use Rattle.sheet_size.specs.Size.{within};
 ghost use Rattle.point_darts.specs.Dart.{mark, points, slots};
 ghost use Rattle.region_names.specs.Frame.{surround};
-ghost use Rattle.region_totals.specs.Tally.{Named, Small, cellTotal, lineTotal};
+ghost use Rattle.region_totals.specs.Tally.{Named, Small, cell_total, line_total};
 ghost use Rattle.region_totals.specs.Total.{Totalled};
 
 use crate::tally;
@@ -22,10 +22,10 @@ fn where_some(cells: u16, value: u16) -> u16
 fn add_up(cells: &mut [u16], borders: &mut [u16], odd: &[u16])
     requires { (length borders.old ≡ length cells.old) × (2 * length cells.old ≤ length odd.now) ×
         (length odd.now < mark) × Small cells.old borders.old odd.now }
-    ensures { (cells.new ≡ table (length cells.old) (cellTotal cells.old odd.now)) ×
+    ensures { (cells.new ≡ table (length cells.old) (cell_total cells.old odd.now)) ×
         (borders.new ≡
         table (length cells.old)
-        (lineTotal (length cells.old) cells.old borders.old odd.now)) }
+        (line_total (length cells.old) cells.old borders.old odd.now)) }
 {
     let n = cells.len();
     let mut r: usize = 0;

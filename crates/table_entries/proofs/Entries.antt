@@ -18,18 +18,18 @@ use Rattle.point_darts.specs.Dart.{mark}
 use Rattle.paper.specs.Joining.{at, on}
 
 -- An entry, whatever is read past the end.
-pub entry-any : (t : List ℕ) (d y z : ℕ) → d < length t → get_or t d y ≡ get_or t d z
-entry-any [] d y z h = absurd (not-suc-le-zero h)
-entry-any (x ∷ t) zero y z h = refl
-entry-any (x ∷ t) (suc d) y z h = entry-any t d y z (omega arith)
+pub entry_any : (t : List ℕ) (d y z : ℕ) → d < length t → get_or t d y ≡ get_or t d z
+entry_any [] d y z h = absurd (not-suc-le-zero h)
+entry_any (x ∷ t) zero y z h = refl
+entry_any (x ∷ t) (suc d) y z h = entry_any t d y z (omega arith)
 
 pub at_entry : (t : List ℕ) (d : ℕ) → d < length t → at t d ≡ get_or t d 0
 unfolding at
-at_entry t d h = entry-any t d mark 0 h
+at_entry t d h = entry_any t d mark 0 h
 
-pub at-end : (t : List ℕ) (d : ℕ) → length t ≤ d → at t d ≡ mark
+pub at_end : (t : List ℕ) (d : ℕ) → length t ≤ d → at t d ≡ mark
 unfolding at
-at-end t d h = get_or-eq_default t mark h
+at_end t d h = get_or-eq_default t mark h
 
 -- An entry after a store.
 pub at_same : (t : List ℕ) (p v : ℕ) → p < length t → at (set t p v) p ≡ v
@@ -53,27 +53,27 @@ module _ (t : List ℕ) (d : ℕ) where
   at_in h = sym (at_entry t d h)
 
   pub at_out : length t ≤ d → mark ≡ at t d
-  at_out h = sym (at-end t d h)
+  at_out h = sym (at_end t d h)
 
   -- an entry is on where it is not the mark
-  pub on-mark : at t d ≡ mark → on t d ≡ false
+  pub on_mark : at t d ≡ mark → on t d ≡ false
   unfolding on
-  on-mark e = ap not (eq-eqb (at t d) mark e)
+  on_mark e = ap not (eq-eqb (at t d) mark e)
 
-  pub on-entry : (at t d ≡ mark → ⊥) → on t d ≡ true
+  pub on_entry : (at t d ≡ mark → ⊥) → on t d ≡ true
   unfolding on
-  on-entry n = ap not (ne_eqb (at t d) mark n)
+  on_entry n = ap not (ne_eqb (at t d) mark n)
 
   module _ (e : on t d ≡ true) where
-    pub on-no-mark : at t d ≢ mark
-    on-no-mark z = clash e (on-mark z)
+    pub on_no_mark : at t d ≢ mark
+    on_no_mark z = clash e (on_mark z)
 
     pub on_below : d < length t
     on_below = go (dec_lt d (length t))
       where
         go : Dec (d < length t) → d < length t
         go (yes b) = b
-        go (no b) = absurd (on-no-mark (at-end t d (omega arith)))
+        go (no b) = absurd (on_no_mark (at_end t d (omega arith)))
 
 -- A table of one value alone.
 values_listed : (v k n : ℕ) → listed {A = ℕ} (λ i. v) k n ≡ replicate n v
@@ -81,17 +81,17 @@ unfolding listed
 values_listed v k zero = refl
 values_listed v k (suc n) = ap {B = List ℕ} (λ t. v ∷ t) (values_listed v (suc k) n)
 
-pub values-table : (v n : ℕ) → table {A = ℕ} n (λ i. v) ≡ replicate n v
+pub values_table : (v n : ℕ) → table {A = ℕ} n (λ i. v) ≡ replicate n v
 unfolding table
-values-table v n = values_listed v 0 n
+values_table v n = values_listed v 0 n
 
 -- An entry that gives way to the mark where a table of links has the mark.
-cond-not : (b : Bool) (x y : ℕ) → cond b x y ≡ cond (not b) y x
-cond-not true x y = refl
-cond-not false x y = refl
+cond_not : (b : Bool) (x y : ℕ) → cond b x y ≡ cond (not b) y x
+cond_not true x y = refl
+cond_not false x y = refl
 
-pub trim-entry : (x s t : List ℕ) (i v : ℕ) → i < length x → i < length s → get_or t i 0 ≡ get_or s i 0
+pub trim_entry : (x s t : List ℕ) (i v : ℕ) → i < length x → i < length s → get_or t i 0 ≡ get_or s i 0
     → v ≡ cond (eqb (get_or x i 0) mark) mark (get_or t i 0) → v ≡ cond (on x i) (at s i) mark
 unfolding on
-trim-entry x s t i v a b e f =
-    f ∙ cond-not (eqb (get_or x i 0) mark) mark (get_or t i 0) ∙ rw (at_entry x i a, at_entry s i b, e)
+trim_entry x s t i v a b e f =
+    f ∙ cond_not (eqb (get_or x i 0) mark) mark (get_or t i 0) ∙ rw (at_entry x i a, at_entry s i b, e)

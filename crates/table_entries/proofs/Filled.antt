@@ -9,7 +9,7 @@ use native.Mathlib.Omega.{arith}
 use lib.ListN.{length, get_or, set, length-set}
 use lib.Seq.{ext_get_or, get_or-set_same, get_or-set_other}
 use Rattle.laws.specs.Table.{table}
-use Rattle.laws.proofs.Table.{length-table, getD-table}
+use Rattle.laws.proofs.Table.{length_table, get_or_table}
 
 pub record Filled (n : ℕ) (f : ℕ → ℕ) (i : ℕ) (o t : List ℕ) : Type 0 where
   pub done : (k : ℕ) → k < i → get_or t k 0 ≡ f k
@@ -21,8 +21,8 @@ module _ (n : ℕ) (f : ℕ → ℕ) where
   filled_none t e = record { done = λ k h. absurd (not-suc-le-zero h); rest = λ k h. refl; long = e }
 
   module _ (i : ℕ) (o t : List ℕ) (r : Filled n f i o t) where
-    set-done : (v : ℕ) → i < n → v ≡ f i → (k : ℕ) → k < i + 1 → get_or (set t i v) k 0 ≡ f k
-    set-done v b e k h = go (ℕ_discrete k i)
+    set_done : (v : ℕ) → i < n → v ≡ f i → (k : ℕ) → k < i + 1 → get_or (set t i v) k 0 ≡ f k
+    set_done v b e k h = go (ℕ_discrete k i)
       where
         go : Dec (k ≡ i) → get_or (set t i v) k 0 ≡ f k
         go (yes q) = rw (q, get_or-set_same t i v 0 (omega (arith, r.long))) e
@@ -32,7 +32,7 @@ module _ (n : ℕ) (f : ℕ → ℕ) where
     pub filled_more : (v : ℕ) → i < n → v ≡ f i → Filled n f (i + 1) o (set t i v)
     filled_more v b e =
         record {
-          done = set-done v b e;
+          done = set_done v b e;
           rest = λ k h. get_or-set_other t i k v 0 (omega arith) ∙ r.rest k (omega arith);
           long = length-set t i v ∙ r.long;
         }
@@ -47,7 +47,7 @@ module _ (n : ℕ) (f : ℕ → ℕ) where
         go k h (no l) = r.done k (omega arith)
 
     -- all entries
-    pub filled-all : n ≤ i → t ≡ table n f
-    filled-all h =
-        ext_get_or 0 t (table n f) (r.long ∙ sym (length-table n f))
-        (λ k b. r.done k (omega (arith, r.long)) ∙ sym (getD-table n f k 0 (omega (arith, r.long))))
+    pub filled_all : n ≤ i → t ≡ table n f
+    filled_all h =
+        ext_get_or 0 t (table n f) (r.long ∙ sym (length_table n f))
+        (λ k b. r.done k (omega (arith, r.long)) ∙ sym (get_or_table n f k 0 (omega (arith, r.long))))

@@ -7,28 +7,28 @@ use native.Mathlib.Nat.{le_refl}
 use lib.ListN.{length, get_or, set, replicate}
 use Rattle.laws.specs.Table.{table}
 use Rattle.paper.specs.Joining.{at}
-use Rattle.table_entries.proofs.Entries.{at_entry, values-table}
-use Rattle.table_entries.proofs.Filled.{Filled, filled_none, filled_more, filled-all}
+use Rattle.table_entries.proofs.Entries.{at_entry, values_table}
+use Rattle.table_entries.proofs.Filled.{Filled, filled_none, filled_more, filled_all}
 
 abbrev pub Half : (ℕ → ℕ) → ℕ → List ℕ → List ℕ → Type 0
 Half f i s t = Filled (length s) f i s t
 
 module _ (f : ℕ → ℕ) where
-  pub half-none : (s : List ℕ) → Half f 0 s s
-  half-none s = filled_none (length s) f s refl
+  pub half_none : (s : List ℕ) → Half f 0 s s
+  half_none s = filled_none (length s) f s refl
 
   -- an entry more
-  pub half-more : (i v : ℕ) (s t : List ℕ) → Half f i s t → i < length s → v ≡ f i → Half f (i + 1) s (set t i v)
-  half-more i v s t p h e = filled_more (length s) f i s t p v h e
+  pub half_more : (i v : ℕ) (s t : List ℕ) → Half f i s t → i < length s → v ≡ f i → Half f (i + 1) s (set t i v)
+  half_more i v s t p h e = filled_more (length s) f i s t p v h e
 
   -- all entries
-  pub half-all : (n i : ℕ) (s t : List ℕ) → Half f i s t → length s ≡ n → length s ≤ i → t ≡ table n f
-  half-all n i s t p e h = filled-all (length s) f i s t p h ∙ ap (λ m. table m f) e
+  pub half_all : (n i : ℕ) (s t : List ℕ) → Half f i s t → length s ≡ n → length s ≤ i → t ≡ table n f
+  half_all n i s t p e h = filled_all (length s) f i s t p h ∙ ap (λ m. table m f) e
 
 -- an entry that is not yet treated
-pub half-here : (f : ℕ → ℕ) (i : ℕ) (s t : List ℕ) → Half f i s t → i < length s → at s i ≡ get_or t i 0
-half-here f i s t p h = at_entry s i h ∙ sym (p.rest i (le_refl i))
+pub half_here : (f : ℕ → ℕ) (i : ℕ) (s t : List ℕ) → Half f i s t → i < length s → at s i ≡ get_or t i 0
+half_here f i s t p h = at_entry s i h ∙ sym (p.rest i (le_refl i))
 
 -- all entries, one value
-pub half-same : (v i : ℕ) (s t : List ℕ) → Half (λ _. v) i s t → length s ≤ i → t ≡ replicate (length s) v
-half-same v i s t p h = half-all (λ _. v) (length s) i s t p refl h ∙ values-table v (length s)
+pub half_same : (v i : ℕ) (s t : List ℕ) → Half (λ _. v) i s t → length s ≤ i → t ≡ replicate (length s) v
+half_same v i s t p h = half_all (λ _. v) (length s) i s t p refl h ∙ values_table v (length s)

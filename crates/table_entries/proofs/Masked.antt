@@ -17,23 +17,23 @@ use Rattle.paper.specs.Joining.{at, on}
 use Rattle.table_entries.proofs.Entries.{at_in}
 
 -- a weight where what was found is not the mark, else 0
-pub where-off : (r v : ℕ) → r ≡ mark → (0 ≡ v * number (not (eqb r mark))) × (0 ≤ v)
-where-off r v e = (rw (eq-eqb r mark e, mul-zero), zero-le)
+pub where_off : (r v : ℕ) → r ≡ mark → (0 ≡ v * number (not (eqb r mark))) × (0 ≤ v)
+where_off r v e = (rw (eq-eqb r mark e, mul-zero), zero-le)
 
-pub where-on : (r v : ℕ) → (r ≡ mark → ⊥) → (v ≡ v * number (not (eqb r mark))) × (v ≤ v)
-where-on r v n = (rw (ne_eqb r mark n, mul-one), le_refl v)
+pub where_on : (r v : ℕ) → (r ≡ mark → ⊥) → (v ≡ v * number (not (eqb r mark))) × (v ≤ v)
+where_on r v n = (rw (ne_eqb r mark n, mul-one), le_refl v)
 
 -- The mask of a point, line by line.
-pub mask-sum : (e s w n a b c d : ℕ) → a ≡ 1 * number (not (eqb e mark)) → b ≡ 2 * number (not (eqb s mark))
+pub mask_sum : (e s w n a b c d : ℕ) → a ≡ 1 * number (not (eqb e mark)) → b ≡ 2 * number (not (eqb s mark))
     → c ≡ 4 * number (not (eqb w mark)) → d ≡ 8 * number (not (eqb n mark)) → (t : List ℕ) (p : ℕ) → e ≡ at t (dart p 0)
     → s ≡ at t (dart p 1) → w ≡ at t (dart p 2) → n ≡ at t (dart p 3)
     → (a + b + c + d ≡ mask (on t) p) × (a + b + c + d < 16)
 unfolding mask bits on
-mask-sum e s w n a b c d i j k l t p x y z u = (sum, rw sum (bits_below (λ k. on t (dart p k))))
+mask_sum e s w n a b c d i j k l t p x y z u = (sum, rw sum (bits_below (λ k. on t (dart p k))))
   where
     sum : a + b + c + d ≡ mask (on t) p
     sum = rw (i, j, k, l, x, y, z, u, one-mul)
 
 -- the entry of a dart of a point, read where it lies
-pub read-dart : (t : List ℕ) (p k j : ℕ) → j ≡ dart p k → dart p k < length t → get_or t j 0 ≡ at t (dart p k)
-read-dart t p k j e b = rw e (at_in t (dart p k) b)
+pub read_dart : (t : List ℕ) (p k j : ℕ) → j ≡ dart p k → dart p k < length t → get_or t j 0 ≡ at t (dart p k)
+read_dart t p k j e b = rw e (at_in t (dart p k) b)

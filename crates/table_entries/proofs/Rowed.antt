@@ -17,9 +17,9 @@ pub record Rowing (f : ℕ → ℕ) (a n : ℕ) (o t : List ℕ) : Type 0 where
   pub long : length t ≡ length o
 
 module _ (f : ℕ → ℕ) (a : ℕ) (o : List ℕ) where
-  pub rowing-none : Rowing f a 0 o o
+  pub rowing_none : Rowing f a 0 o o
   unfolding rowed
-  rowing-none = record { done = refl; long = refl }
+  rowing_none = record { done = refl; long = refl }
 
   -- an entry more
   pub rowing_more : (n : ℕ) (t : List ℕ) → Rowing f a n o t → (v : ℕ) → v ≡ f n → Rowing f a (n + 1) o (set t (a + n) v)
@@ -28,8 +28,8 @@ module _ (f : ℕ → ℕ) (a : ℕ) (o : List ℕ) where
       record { done = rw (add-one, e, r.done); long = length-set t (a + n) v ∙ r.long }
 
   -- all m entries
-  pub rowing-all : (m n : ℕ) (t : List ℕ) → Rowing f a n o t → n ≡ m → t ≡ rowed f a m o
-  rowing-all m n t r e = rw (← e) r.done
+  pub rowing_all : (m n : ℕ) (t : List ℕ) → Rowing f a n o t → n ≡ m → t ≡ rowed f a m o
+  rowing_all m n t r e = rw (← e) r.done
 
 -- A row more, which holds what g has there.
 pub filled_row : (m : ℕ) (g f : ℕ → ℕ) (a : ℕ) (o t : List ℕ) → Filled m g a o t → (n : ℕ) → a + n ≤ m

@@ -3,7 +3,7 @@ ghost use Rattle.laws.specs.Equal.{equal};
 ghost use Rattle.point_darts.specs.Dart.{mark, dart};
 ghost use Rattle.paper.specs.Joining.{at};
 ghost use Rattle.paper.specs.Refusal.{cleared};
-ghost use Rattle.table_entries.specs.Pointed.{fourAt};
+ghost use Rattle.table_entries.specs.Pointed.{four_at};
 ghost use Rattle.table_entries.specs.Trim.{trimmed};
 
 use point_darts::dart;
@@ -41,7 +41,7 @@ pub fn put_pair(table: &mut [u16], d: u16, value: u16, e: u16, other: u16)
 // Sets the entries of the four darts that leave a point.
 pub fn put_four(table: &mut [u16], point: u16, east: u16, south: u16, west: u16, north: u16)
     requires { dart point 3 < length table.old }
-    ensures { table.new ≡ fourAt table.old point east south west north }
+    ensures { table.new ≡ four_at table.old point east south west north }
 {
     let i = dart::first_slot(point);
     table[i] = east;

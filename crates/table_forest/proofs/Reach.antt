@@ -11,7 +11,7 @@ use native.Mathlib.Omega.{arith}
 use lib.ListN.{length, get_or}
 use Rattle.laws.specs.Table.{table}
 use Rattle.laws.specs.Least.{tie, ties, least}
-use Rattle.laws.proofs.Table.{length-table, getD-table, getD-table-past}
+use Rattle.laws.proofs.Table.{length_table, get_or_table, get_or_table_past}
 use Rattle.table_forest.specs.Forest.{Forest, Grown}
 
 abbrev pub reached : ℕ → (ℕ → ℕ) → (ℕ → ℕ) → ℕ → List ℕ
@@ -23,26 +23,26 @@ pub tied_by : (m : ℕ) (l t : List ℕ) (i x y u v : ℕ) → x ≡ u → y ≡
 tied_by m l t i x y u v p q f = rw (p, q) at f
 
 -- at first each node is its own label
-own-low : (n k : ℕ) → get_or (table n (λ j. j)) k 0 ≤ k
-own-low n k = go (dec_lt k n)
+own_low : (n k : ℕ) → get_or (table n (λ j. j)) k 0 ≤ k
+own_low n k = go (dec_lt k n)
   where
     go : Dec (k < n) → get_or (table n (λ j. j)) k 0 ≤ k
-    go (yes h) = rw (getD-table n (λ j. j) k 0 h) (le_refl k)
-    go (no h) = rw (getD-table-past n (λ j. j) k 0 (omega arith)) zero-le
+    go (yes h) = rw (get_or_table n (λ j. j) k 0 h) (le_refl k)
+    go (no h) = rw (get_or_table_past n (λ j. j) k 0 (omega arith)) zero-le
 
 pub record Reached (n : ℕ) (b c : ℕ → ℕ) (i : ℕ) (t : List ℕ) : Type 0 where
   pub forest : Forest i (reached n b c i) t
   pub long : length t ≡ n
 
 module _ (n : ℕ) (b c : ℕ → ℕ) where
-  pub reached-none : (t : List ℕ) → length t ≡ n → Reached n b c 0 t
+  pub reached_none : (t : List ℕ) → length t ≡ n → Reached n b c 0 t
   unfolding ties
-  reached-none t e =
+  reached_none t e =
       record {
         forest = record {
-          sized = length-table n (λ k. k) ∙ sym e;
+          sized = length_table n (λ k. k) ∙ sym e;
           room = zero-le;
-          labels = record { low = own-low n; new = λ k d h. getD-table n (λ j. j) k 0 (rw length-table at h) };
+          labels = record { low = own_low n; new = λ k d h. get_or_table n (λ j. j) k 0 (rw length_table at h) };
           leads = λ k h. absurd (not-suc-le-zero h);
         };
         long = e;
@@ -53,22 +53,22 @@ module _ (n : ℕ) (b c : ℕ → ℕ) where
     growing = record { labels = reached n b c i; forest = f.forest }
 
     -- one node more
-    pub reached-more : (u : List ℕ) → length u ≡ length t
+    pub reached_more : (u : List ℕ) → length u ≡ length t
         → Forest (suc i) (tie i (c i) (tie i (b i) (reached n b c i))) u → Reached n b c (i + 1) u
     unfolding ties
-    reached-more u e d = record { forest = rw add-one d; long = e ∙ f.long }
+    reached_more u e d = record { forest = rw add-one d; long = e ∙ f.long }
 
     -- with all nodes the labels are the least nodes reachable
     ended : n ≤ i → i ≡ n
     ended h = omega (arith, f.forest.room, f.long)
 
-    pub reached-grown : n ≤ i → Grown (length t) t
-    reached-grown h =
+    pub reached_grown : n ≤ i → Grown (length t) t
+    reached_grown h =
         record {
           labels = reached n b c i;
           forest = subst (λ m. Forest m (reached n b c i) t) (ended h ∙ sym f.long) f.forest;
         }
 
-    pub reached-least : (u : List ℕ) → n ≤ i → ((g : Grown (length t) t) → u ≡ g.labels) → u ≡ least n b c
-    unfolding least reached-grown
-    reached-least u h d = d (reached-grown h) ∙ rw (ended h)
+    pub reached_least : (u : List ℕ) → n ≤ i → ((g : Grown (length t) t) → u ≡ g.labels) → u ≡ least n b c
+    unfolding least reached_grown
+    reached_least u h d = d (reached_grown h) ∙ rw (ended h)

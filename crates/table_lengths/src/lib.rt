@@ -1,13 +1,13 @@
 // The stated lengths of the tables that a call is lent.
 ghost use Rattle.std.specs.Prelude.{◌≡◌, true};
 ghost use Rattle.sheet_size.specs.Size.{within};
-ghost use Rattle.table_lengths.specs.Lengths.{allAre, lengths};
+ghost use Rattle.table_lengths.specs.Lengths.{all_are, lengths};
 
 use point_darts::dart;
 
 // Whether some lengths are all n.
 fn all_are(n: usize, lengths: &[usize]) -> bool
-    ensures { result ≡ allAre n lengths.now }
+    ensures { result ≡ all_are n lengths.now }
 {
     let mut i = 0;
     while i < lengths.len() {

@@ -1,7 +1,7 @@
 use mathlib.Core.Path.{sym, ◌∙◌}
 use borrow.Author.Tests.{not-true, not-false}
 use Rattle.region_depths.proofs.Climb.{known_in}
-use Rattle.count_answer.proofs.After.{after-refused, after-name, after_is}
+use Rattle.count_answer.proofs.After.{after_refused, after_name, after_is}
 use borrow.Author.Rules.{rules}
 use Rattle.count_answer.proofs.depth_after.Statement.{statement}
 use Rattle.count_answer.proofs.depth_after.Tie as tie
@@ -10,7 +10,7 @@ number-requires : tie.Need-number-requires
 number-requires c κs = search rules
 
 returns : tie.Need-returns
-returns c = after-refused _ _ _ (λ z. c.if1.true (c.before.number.ensures ∙ z))
+returns c = after_refused _ _ _ (λ z. c.if1.true (c.before.number.ensures ∙ z))
 
 is-known-requires : tie.Need-is-known-requires
 is-known-requires c κs = search rules
@@ -18,7 +18,7 @@ is-known-requires c κs = search rules
 returns-2 : tie.Need-returns-2
 returns-2 c =
     let k = c.before.before in
-    after-name _ _ _ (sym k.before.number.ensures ∙ k.if1.false)
+    after_name _ _ _ (sym k.before.number.ensures ∙ k.if1.false)
     (sym c.before.is_known.ensures ∙ not-true _ c.if2.true)
 
 depth-requires : tie.Need-depth-requires

@@ -7,7 +7,7 @@ use Rattle.point_darts.specs.Dart.{mark}
 use Rattle.answer.specs.Answer.{number_of}
 use Rattle.region_depths.specs.Tree.{known}
 use Rattle.region_depths.proofs.Climb.{known_in}
-use Rattle.count_answer.proofs.After.{after-refused, after-name, after_is}
+use Rattle.count_answer.proofs.After.{after_refused, after_name, after_is}
 use borrow.Author.Rules.{rules}
 use Rattle.count_answer.proofs.holes_after.Statement.{statement}
 use Rattle.count_answer.proofs.holes_after.Tie as tie
@@ -35,7 +35,7 @@ number-requires : tie.Need-number-requires
 number-requires c κs = search rules
 
 returns : tie.Need-returns
-returns c = (after-refused _ _ _ (λ z. c.if1.true (c.before.number.ensures ∙ z)), refl)
+returns c = (after_refused _ _ _ (λ z. c.if1.true (c.before.number.ensures ∙ z)), refl)
 
 is-known-requires : tie.Need-is-known-requires
 is-known-requires c κs = search rules
@@ -44,7 +44,7 @@ returns-2 : tie.Need-returns-2
 returns-2 c =
     let k = c.before.before in
     let z = sym k.before.number.ensures ∙ k.if1.false in
-    (after-name _ _ _ z (sym c.before.is_known.ensures ∙ not-true _ c.if2.true), refl)
+    (after_name _ _ _ z (sym c.before.is_known.ensures ∙ not-true _ c.if2.true), refl)
 
 holes-requires : tie.Need-holes-requires
 holes-requires c κs =

@@ -5,7 +5,7 @@ use borrow.Author.Rules.{rules}
 use borrow.Author.Tests.{not-true, not-false}
 use Rattle.deck_card.specs.Card.{columns}
 use Rattle.deck_layout.specs.Layout.{wide, held}
-use Rattle.deck_layout.proofs.Sizes.{wide-more, held_first, held-second}
+use Rattle.deck_layout.proofs.Sizes.{wide_more, held_first, held_second}
 use Rattle.deck_layout.proofs.held.Statement.{statement}
 use Rattle.deck_layout.proofs.held.Tie as tie
 
@@ -26,11 +26,11 @@ returns-2 c = sym (held_first _ _ (is_wide c.before) c.if2.true)
 
 sub-result : tie.Need-overflow-sub-result
 unfolding columns
-sub-result c = omega (arith, wide-more _ (is_wide c.before))
+sub-result c = omega (arith, wide_more _ (is_wide c.before))
 
 returns-3 : tie.Need-returns-3
 unfolding columns
-returns-3 c = sym (held-second _ _ (is_wide c.before) c.if2.false)
+returns-3 c = sym (held_second _ _ (is_wide c.before) c.if2.false)
 
 pub held_spec : {M : Type 1} → statement M
 held_spec = tie.close (tie.spec wide-requires returns returns-2 sub-result returns-3)

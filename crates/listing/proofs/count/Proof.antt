@@ -1,4 +1,4 @@
-use Rattle.table_entries.proofs.Front.{blank-in, blank-front}
+use Rattle.table_entries.proofs.Front.{blank_in, blank_front}
 use Rattle.listing.specs.Room.{room}
 use Rattle.listing.proofs.count.Statement.{statement}
 use Rattle.listing.proofs.count.Tie as tie
@@ -51,40 +51,40 @@ front-requires-7 : tie.Need-front-requires-7
 front-requires-7 c κs = tt
 
 array-borrow-prefix-depths : tie.Need-array-borrow-prefix-depths
-array-borrow-prefix-depths c = blank-in 0 _ room (from-fronts c).requires.1
+array-borrow-prefix-depths c = blank_in 0 _ room (from-fronts c).requires.1
 
 slice-aggregate-counts : tie.Need-slice-aggregate-counts
-slice-aggregate-counts c = blank-front 0 _ room (from-depths c).requires.1
+slice-aggregate-counts c = blank_front 0 _ room (from-depths c).requires.1
 
 array-borrow-prefix-holes : tie.Need-array-borrow-prefix-holes
-array-borrow-prefix-holes c = blank-in 0 _ room (from-depths c).requires.1
+array-borrow-prefix-holes c = blank_in 0 _ room (from-depths c).requires.1
 
 slice-aggregate-counts-2 : tie.Need-slice-aggregate-counts-2
-slice-aggregate-counts-2 c = blank-front 0 _ room (from-holes c).requires.1
+slice-aggregate-counts-2 c = blank_front 0 _ room (from-holes c).requires.1
 
 array-borrow-prefix-a : tie.Need-array-borrow-prefix-a
-array-borrow-prefix-a c = blank-in 0 _ room (from-holes c).requires.0
+array-borrow-prefix-a c = blank_in 0 _ room (from-holes c).requires.0
 
 slice-aggregate-counts-3 : tie.Need-slice-aggregate-counts-3
-slice-aggregate-counts-3 c = blank-front 0 _ room (from-a c).requires.0
+slice-aggregate-counts-3 c = blank_front 0 _ room (from-a c).requires.0
 
 array-borrow-prefix-b : tie.Need-array-borrow-prefix-b
-array-borrow-prefix-b c = blank-in 0 _ room (from-a c).requires.0
+array-borrow-prefix-b c = blank_in 0 _ room (from-a c).requires.0
 
 slice-aggregate-counts-4 : tie.Need-slice-aggregate-counts-4
-slice-aggregate-counts-4 c = blank-front 0 _ room (from-b c).requires.0
+slice-aggregate-counts-4 c = blank_front 0 _ room (from-b c).requires.0
 
 array-borrow-prefix-c : tie.Need-array-borrow-prefix-c
-array-borrow-prefix-c c = blank-in 0 _ room (from-b c).requires.0
+array-borrow-prefix-c c = blank_in 0 _ room (from-b c).requires.0
 
 slice-aggregate-counts-5 : tie.Need-slice-aggregate-counts-5
-slice-aggregate-counts-5 c = blank-front 0 _ room (from-c c).requires.0
+slice-aggregate-counts-5 c = blank_front 0 _ room (from-c c).requires.0
 
 array-borrow-prefix-d : tie.Need-array-borrow-prefix-d
-array-borrow-prefix-d c = blank-in 0 _ room (from-c c).requires.0
+array-borrow-prefix-d c = blank_in 0 _ room (from-c c).requires.0
 
 slice-aggregate-counts-6 : tie.Need-slice-aggregate-counts-6
-slice-aggregate-counts-6 c = blank-front 0 _ room (from-d c).requires.0
+slice-aggregate-counts-6 c = blank_front 0 _ room (from-d c).requires.0
 
 counts-requires : tie.Need-counts-requires
 counts-requires c κs = tt

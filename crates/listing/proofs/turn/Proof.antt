@@ -1,5 +1,5 @@
 use mathlib.Core.Path.{sym, ◌∙◌}
-use Rattle.table_entries.proofs.Front.{front_long, blank-front}
+use Rattle.table_entries.proofs.Front.{front_long, blank_front}
 use Rattle.listing.specs.Room.{room}
 use borrow.Author.Rules.{rules}
 use Rattle.listing.proofs.turn.Statement.{statement}
@@ -33,20 +33,20 @@ array-borrow-prefix-right : tie.Need-array-borrow-prefix-right
 array-borrow-prefix-right c = search rules
 
 slice-aggregate-all-turns-2 : tie.Need-slice-aggregate-all-turns-2
-slice-aggregate-all-turns-2 c = blank-front 0 _ room (counted (lines c.before)).slots-of.ensures.1
+slice-aggregate-all-turns-2 c = blank_front 0 _ room (counted (lines c.before)).slots-of.ensures.1
 
 array-borrow-prefix-left : tie.Need-array-borrow-prefix-left
 array-borrow-prefix-left c = search rules
 
 slice-aggregate-all-turns-3 : tie.Need-slice-aggregate-all-turns-3
-slice-aggregate-all-turns-3 c = blank-front 0 _ room (counted (lines c.before.before)).slots-of.ensures.1
+slice-aggregate-all-turns-3 c = blank_front 0 _ room (counted (lines c.before.before)).slots-of.ensures.1
 
 all-turns-requires : tie.Need-all-turns-requires
 all-turns-requires c κs =
     let k = lines c.before.before in
     let s = counted k in
     let e = s.slots-of.ensures in
-    let blank = sym (blank-front 0 _ room e.1) ∙ e.0 in
+    let blank = sym (blank_front 0 _ room e.1) ∙ e.0 in
     (s.before.pre, front_long room _ _ (sym (slice-aggregate-lines k)) e.1 ∙ e.0, blank, blank)
 
 returns : tie.Need-returns

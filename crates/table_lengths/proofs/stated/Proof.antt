@@ -1,6 +1,6 @@
 use native.Mathlib.Omega.{arith}
 use Rattle.point_darts.proofs.Fit.{cells_fit}
-use Rattle.table_lengths.proofs.Tested.{names-differ, names_same}
+use Rattle.table_lengths.proofs.Tested.{names_differ, names_same}
 use borrow.Author.Rules.{rules}
 use Rattle.table_lengths.proofs.stated.Statement.{statement}
 use Rattle.table_lengths.proofs.stated.Tie as tie
@@ -18,7 +18,7 @@ all-are-requires : tie.Need-all-are-requires
 all-are-requires c κs = search rules
 
 returns : tie.Need-returns
-returns c = names-differ _ _ _ _ _ c.before.all_are.ensures c.if1.true
+returns c = names_differ _ _ _ _ _ c.before.all_are.ensures c.if1.true
 
 slots-requires : tie.Need-slots-requires
 slots-requires c κs = search rules

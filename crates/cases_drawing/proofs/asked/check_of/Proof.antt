@@ -1,5 +1,5 @@
 use Rattle.case_sheets.specs.Room.{room}
-use Rattle.table_entries.proofs.Front.{blank-in, blank-front}
+use Rattle.table_entries.proofs.Front.{blank_in, blank_front}
 use Rattle.cases_drawing.proofs.asked.check_of.Statement.{statement}
 use Rattle.cases_drawing.proofs.asked.check_of.Tie as tie
 
@@ -45,28 +45,28 @@ front-requires-7 : tie.Need-front-requires-7
 front-requires-7 c κs = tt
 
 array-borrow-prefix-a : tie.Need-array-borrow-prefix-a
-array-borrow-prefix-a c = blank-in 7 _ room (from-fronts c).requires.a
+array-borrow-prefix-a c = blank_in 7 _ room (from-fronts c).requires.a
 
 slice-aggregate-check : tie.Need-slice-aggregate-check
-slice-aggregate-check c = blank-front 7 _ room (from-a c).requires.a
+slice-aggregate-check c = blank_front 7 _ room (from-a c).requires.a
 
 array-borrow-prefix-b : tie.Need-array-borrow-prefix-b
-array-borrow-prefix-b c = blank-in 7 _ room (from-a c).requires.b
+array-borrow-prefix-b c = blank_in 7 _ room (from-a c).requires.b
 
 slice-aggregate-check-2 : tie.Need-slice-aggregate-check-2
-slice-aggregate-check-2 c = blank-front 7 _ room (from-b c).requires.b
+slice-aggregate-check-2 c = blank_front 7 _ room (from-b c).requires.b
 
 array-borrow-prefix-c : tie.Need-array-borrow-prefix-c
-array-borrow-prefix-c c = blank-in 7 _ room (from-b c).requires.c
+array-borrow-prefix-c c = blank_in 7 _ room (from-b c).requires.c
 
 slice-aggregate-check-3 : tie.Need-slice-aggregate-check-3
-slice-aggregate-check-3 c = blank-front 7 _ room (from-c c).requires.c
+slice-aggregate-check-3 c = blank_front 7 _ room (from-c c).requires.c
 
 array-borrow-prefix-d : tie.Need-array-borrow-prefix-d
-array-borrow-prefix-d c = blank-in 7 _ room (from-c c).requires.d
+array-borrow-prefix-d c = blank_in 7 _ room (from-c c).requires.d
 
 slice-aggregate-check-4 : tie.Need-slice-aggregate-check-4
-slice-aggregate-check-4 c = blank-front 7 _ room (from-d c).requires.d
+slice-aggregate-check-4 c = blank_front 7 _ room (from-d c).requires.d
 
 check-requires : tie.Need-check-requires
 check-requires c κs = tt

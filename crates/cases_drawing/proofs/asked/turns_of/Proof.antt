@@ -1,5 +1,5 @@
 use Rattle.case_sheets.specs.Room.{room}
-use Rattle.table_entries.proofs.Front.{blank-in, blank-front}
+use Rattle.table_entries.proofs.Front.{blank_in, blank_front}
 use Rattle.cases_drawing.proofs.asked.turns_of.Statement.{statement}
 use Rattle.cases_drawing.proofs.asked.turns_of.Tie as tie
 
@@ -51,40 +51,40 @@ front-requires-7 : tie.Need-front-requires-7
 front-requires-7 c κs = tt
 
 array-borrow-prefix-right : tie.Need-array-borrow-prefix-right
-array-borrow-prefix-right c = blank-in 7 _ room (from-fronts c).requires.next1
+array-borrow-prefix-right c = blank_in 7 _ room (from-fronts c).requires.next1
 
 slice-aggregate-turns : tie.Need-slice-aggregate-turns
-slice-aggregate-turns c = blank-front 7 _ room (from-right c).requires.next1
+slice-aggregate-turns c = blank_front 7 _ room (from-right c).requires.next1
 
 array-borrow-prefix-left : tie.Need-array-borrow-prefix-left
-array-borrow-prefix-left c = blank-in 7 _ room (from-right c).requires.next1
+array-borrow-prefix-left c = blank_in 7 _ room (from-right c).requires.next1
 
 slice-aggregate-turns-2 : tie.Need-slice-aggregate-turns-2
-slice-aggregate-turns-2 c = blank-front 7 _ room (from-left c).requires.next1
+slice-aggregate-turns-2 c = blank_front 7 _ room (from-left c).requires.next1
 
 array-borrow-prefix-a : tie.Need-array-borrow-prefix-a
-array-borrow-prefix-a c = blank-in 7 _ room (from-left c).requires.a
+array-borrow-prefix-a c = blank_in 7 _ room (from-left c).requires.a
 
 slice-aggregate-turns-3 : tie.Need-slice-aggregate-turns-3
-slice-aggregate-turns-3 c = blank-front 7 _ room (from-a c).requires.a
+slice-aggregate-turns-3 c = blank_front 7 _ room (from-a c).requires.a
 
 array-borrow-prefix-b : tie.Need-array-borrow-prefix-b
-array-borrow-prefix-b c = blank-in 7 _ room (from-a c).requires.b
+array-borrow-prefix-b c = blank_in 7 _ room (from-a c).requires.b
 
 slice-aggregate-turns-4 : tie.Need-slice-aggregate-turns-4
-slice-aggregate-turns-4 c = blank-front 7 _ room (from-b c).requires.b
+slice-aggregate-turns-4 c = blank_front 7 _ room (from-b c).requires.b
 
 array-borrow-prefix-c : tie.Need-array-borrow-prefix-c
-array-borrow-prefix-c c = blank-in 7 _ room (from-b c).requires.c
+array-borrow-prefix-c c = blank_in 7 _ room (from-b c).requires.c
 
 slice-aggregate-turns-5 : tie.Need-slice-aggregate-turns-5
-slice-aggregate-turns-5 c = blank-front 7 _ room (from-c c).requires.c
+slice-aggregate-turns-5 c = blank_front 7 _ room (from-c c).requires.c
 
 array-borrow-prefix-d : tie.Need-array-borrow-prefix-d
-array-borrow-prefix-d c = blank-in 7 _ room (from-c c).requires.d
+array-borrow-prefix-d c = blank_in 7 _ room (from-c c).requires.d
 
 slice-aggregate-turns-6 : tie.Need-slice-aggregate-turns-6
-slice-aggregate-turns-6 c = blank-front 7 _ room (from-d c).requires.d
+slice-aggregate-turns-6 c = blank_front 7 _ room (from-d c).requires.d
 
 turns-requires : tie.Need-turns-requires
 turns-requires c κs = tt

@@ -1,7 +1,7 @@
 use mathlib.Core.Path.{◌≡◌, sym}
 use lib.ListN.{length, length-map}
 use Rattle.case_sheets.specs.Room.{room}
-use Rattle.table_entries.proofs.Front.{front-in, front_long, blank-in, blank-front}
+use Rattle.table_entries.proofs.Front.{front_in, front_long, blank_in, blank_front}
 use Rattle.cases_join.proofs.one.join.Statement.{statement}
 use Rattle.cases_join.proofs.one.join.Tie as tie
 
@@ -67,7 +67,7 @@ borders-long s = simp length-map at s.well-formed.1.1.1.1.0.1.1.1.1.1.1.1.1.0.1.
 array-borrow-prefix-next1 : tie.Need-array-borrow-prefix-next1
 array-borrow-prefix-next1 c =
     let s = from-taken c in
-    front-in room _ s.args.tables.next1 (next1-long s) s.pre.next1
+    front_in room _ s.args.tables.next1 (next1-long s) s.pre.next1
 
 slice-aggregate-join : tie.Need-slice-aggregate-join
 slice-aggregate-join c = let s = from-next1 c in sym (front_long room _ _ (next1-long s) s.pre.next1)
@@ -75,7 +75,7 @@ slice-aggregate-join c = let s = from-next1 c in sym (front_long room _ _ (next1
 array-borrow-prefix-side1 : tie.Need-array-borrow-prefix-side1
 array-borrow-prefix-side1 c =
     let s = from-next1 c in
-    front-in room _ s.args.tables.side1 (side1-long s) s.pre.side1
+    front_in room _ s.args.tables.side1 (side1-long s) s.pre.side1
 
 slice-aggregate-join-2 : tie.Need-slice-aggregate-join-2
 slice-aggregate-join-2 c = let s = from-side1 c in sym (front_long room _ _ (side1-long s) s.pre.side1)
@@ -83,7 +83,7 @@ slice-aggregate-join-2 c = let s = from-side1 c in sym (front_long room _ _ (sid
 array-borrow-prefix-next3 : tie.Need-array-borrow-prefix-next3
 array-borrow-prefix-next3 c =
     let s = from-side1 c in
-    front-in room _ s.args.tables.next3 (next3-long s) s.pre.next3
+    front_in room _ s.args.tables.next3 (next3-long s) s.pre.next3
 
 slice-aggregate-join-3 : tie.Need-slice-aggregate-join-3
 slice-aggregate-join-3 c = let s = from-next3 c in sym (front_long room _ _ (next3-long s) s.pre.next3)
@@ -91,7 +91,7 @@ slice-aggregate-join-3 c = let s = from-next3 c in sym (front_long room _ _ (nex
 array-borrow-prefix-other3 : tie.Need-array-borrow-prefix-other3
 array-borrow-prefix-other3 c =
     let s = from-next3 c in
-    front-in room _ s.args.tables.other3 (other3-long s) s.pre.other3
+    front_in room _ s.args.tables.other3 (other3-long s) s.pre.other3
 
 slice-aggregate-join-4 : tie.Need-slice-aggregate-join-4
 slice-aggregate-join-4 c = let s = from-other3 c in sym (front_long room _ _ (other3-long s) s.pre.other3)
@@ -99,7 +99,7 @@ slice-aggregate-join-4 c = let s = from-other3 c in sym (front_long room _ _ (ot
 array-borrow-prefix-parent : tie.Need-array-borrow-prefix-parent
 array-borrow-prefix-parent c =
     let s = from-other3 c in
-    front-in room _ s.args.tables.parent (parent-long s) s.pre.parent
+    front_in room _ s.args.tables.parent (parent-long s) s.pre.parent
 
 slice-aggregate-join-5 : tie.Need-slice-aggregate-join-5
 slice-aggregate-join-5 c = let s = from-parent c in sym (front_long room _ _ (parent-long s) s.pre.parent)
@@ -107,7 +107,7 @@ slice-aggregate-join-5 c = let s = from-parent c in sym (front_long room _ _ (pa
 array-borrow-prefix-cells : tie.Need-array-borrow-prefix-cells
 array-borrow-prefix-cells c =
     let s = from-parent c in
-    front-in room _ s.args.tables.cells (cells-long s) s.pre.cells
+    front_in room _ s.args.tables.cells (cells-long s) s.pre.cells
 
 slice-aggregate-join-6 : tie.Need-slice-aggregate-join-6
 slice-aggregate-join-6 c = let s = from-cells c in sym (front_long room _ _ (cells-long s) s.pre.cells)
@@ -115,34 +115,34 @@ slice-aggregate-join-6 c = let s = from-cells c in sym (front_long room _ _ (cel
 array-borrow-prefix-borders : tie.Need-array-borrow-prefix-borders
 array-borrow-prefix-borders c =
     let s = from-cells c in
-    front-in room _ s.args.tables.borders (borders-long s) s.pre.borders
+    front_in room _ s.args.tables.borders (borders-long s) s.pre.borders
 
 slice-aggregate-join-7 : tie.Need-slice-aggregate-join-7
 slice-aggregate-join-7 c = let s = from-borders c in sym (front_long room _ _ (borders-long s) s.pre.borders)
 
 array-borrow-prefix-a : tie.Need-array-borrow-prefix-a
-array-borrow-prefix-a c = blank-in 7 _ room (from-borders c).requires.a
+array-borrow-prefix-a c = blank_in 7 _ room (from-borders c).requires.a
 
 slice-aggregate-join-8 : tie.Need-slice-aggregate-join-8
-slice-aggregate-join-8 c = blank-front 7 _ room (from-a c).requires.a
+slice-aggregate-join-8 c = blank_front 7 _ room (from-a c).requires.a
 
 array-borrow-prefix-b : tie.Need-array-borrow-prefix-b
-array-borrow-prefix-b c = blank-in 7 _ room (from-a c).requires.b
+array-borrow-prefix-b c = blank_in 7 _ room (from-a c).requires.b
 
 slice-aggregate-join-9 : tie.Need-slice-aggregate-join-9
-slice-aggregate-join-9 c = blank-front 7 _ room (from-b c).requires.b
+slice-aggregate-join-9 c = blank_front 7 _ room (from-b c).requires.b
 
 array-borrow-prefix-c : tie.Need-array-borrow-prefix-c
-array-borrow-prefix-c c = blank-in 7 _ room (from-b c).requires.c
+array-borrow-prefix-c c = blank_in 7 _ room (from-b c).requires.c
 
 slice-aggregate-join-10 : tie.Need-slice-aggregate-join-10
-slice-aggregate-join-10 c = blank-front 7 _ room (from-c c).requires.c
+slice-aggregate-join-10 c = blank_front 7 _ room (from-c c).requires.c
 
 array-borrow-prefix-d : tie.Need-array-borrow-prefix-d
-array-borrow-prefix-d c = blank-in 7 _ room (from-c c).requires.d
+array-borrow-prefix-d c = blank_in 7 _ room (from-c c).requires.d
 
 slice-aggregate-join-11 : tie.Need-slice-aggregate-join-11
-slice-aggregate-join-11 c = blank-front 7 _ room (from-d c).requires.d
+slice-aggregate-join-11 c = blank_front 7 _ room (from-d c).requires.d
 
 join-requires : tie.Need-join-requires
 join-requires c κs = tt

@@ -61,7 +61,7 @@ loop-less c = search rules
 loop-again : tie.Need-loop-preserved invariant-loop decreases-loop
 loop-again c =
     let k = counted c.before.before.before in
-    let d = k.counted-on in
+    let d = k.counted_on in
     let r = (turn k).loop.inv in
     (d.kept.1.1.0 ∙ r.0, omega (arith, d.ensures, r.1))
 
@@ -71,7 +71,7 @@ loop-less-2 c = search rules
 loop-again-2 : tie.Need-loop-preserved-2 invariant-loop decreases-loop
 loop-again-2 c =
     let k = counted c.before in
-    let d = k.counted-on in
+    let d = k.counted_on in
     let r = (turn k).loop.inv in
     (d.kept.1.1.0 ∙ r.0, omega (arith, d.ensures, r.1))
 

@@ -3,9 +3,9 @@ use lib.Seq.{length_front}
 use mathlib.Core.Path.{sym, ◌∙◌}
 use native.Mathlib.Omega.{arith}
 use Rattle.point_darts.proofs.Fit.{cells_fit}
-use Rattle.table_entries.proofs.Front.{front-in, front_long, front-back, back_in, back_long}
-use Rattle.drawing.proofs.Whole.{tops-rising}
-use Rattle.check_call.proofs.Agreeing.{names-part, runs-agreed, curves-no, curves-yes}
+use Rattle.table_entries.proofs.Front.{front_in, front_long, front_back, back_in, back_long}
+use Rattle.drawing.proofs.Whole.{tops_rising}
+use Rattle.check_call.proofs.Agreeing.{names_part, runs_agreed, curves_no, curves_yes}
 use borrow.Author.Rules.{rules}
 use Rattle.check_call.proofs.agree.curves_agree.Statement.{statement}
 use Rattle.check_call.proofs.agree.curves_agree.Tie as tie
@@ -39,7 +39,7 @@ draw-curves-requires c κs =
       q.5,
       q.3,
       q.6,
-      runs-agreed _ _ _ _ q.7 _ _ _ q.0 q.8 e.keep-points.ensures,
+      runs_agreed _ _ _ _ q.7 _ _ _ q.0 q.8 e.keep-points.ensures,
     )
 
 mul-names : tie.Need-overflow-mul-names
@@ -64,7 +64,7 @@ slice-relend-prefix-draw-parents : tie.Need-slice-relend-prefix-draw-parents
 slice-relend-prefix-draw-parents c =
     let e = c.before.before.before.before.before.before.before.before.before.before.before.before.before in
     let z = start e in
-    front-in _ _ e.keep-points.new.1.1.1.1.1.0 (e.keep-points.auto.1.1.1.1.1.0 ∙ z.pre.4) (names-part _
+    front_in _ _ e.keep-points.new.1.1.1.1.1.0 (e.keep-points.auto.1.1.1.1.1.0 ∙ z.pre.4) (names_part _
     _)
 
 slice-aggregate-draw-parents : tie.Need-slice-aggregate-draw-parents
@@ -73,7 +73,7 @@ slice-aggregate-draw-parents c =
     let e = b14.before in
     let z = start e in
     sym (front_long _ _ e.keep-points.new.1.1.1.1.1.0 (e.keep-points.auto.1.1.1.1.1.0 ∙ z.pre.4)
-    (names-part _ _))
+    (names_part _ _))
 
 draw-parents-requires : tie.Need-draw-parents-requires
 draw-parents-requires c κs =
@@ -82,9 +82,9 @@ draw-parents-requires c κs =
     let z = start e in (
       z.pre.0,
       e.keep-points.auto.1.1.1.1.0 ∙ z.pre.2,
-      tops-rising _ _ _ _ _ _ e.keep-points.ensures,
+      tops_rising _ _ _ _ _ _ e.keep-points.ensures,
       front_long _ _ e.keep-points.new.1.1.1.1.1.0 (e.keep-points.auto.1.1.1.1.1.0 ∙ z.pre.4)
-          (names-part _ _),
+          (names_part _ _),
       z.pre.1,
     )
 
@@ -120,7 +120,7 @@ returns c =
     let e = c.before in
     let p = curved (settled e) in
     let q = kept p in
-    curves-no _ _ _ _ _ _ _ _ _ _ _ _ q.keep-points.ensures p.draw-curves.ensures _ e.both-same.ensures
+    curves_no _ _ _ _ _ _ _ _ _ _ _ _ q.keep-points.ensures p.draw-curves.ensures _ e.both_same.ensures
     c.if1.true
 
 slice-reshare-prefix-same : tie.Need-slice-reshare-prefix-same
@@ -128,7 +128,7 @@ slice-reshare-prefix-same c =
     let e = c.before.before.before.before.before.before in
     let p = kept (curved e) in
     let z = start p in
-    back_in _ _ p.keep-points.last.1.1.1.1.1.0 (p.keep-points.kept.1.1.1.1.1.0 ∙ z.pre.4) (names-part _ _)
+    back_in _ _ p.keep-points.last.1.1.1.1.1.0 (p.keep-points.kept.1.1.1.1.1.0 ∙ z.pre.4) (names_part _ _)
     e.draw-parents.new.1.1.1.1.0 e.draw-parents.auto.1.1.1.1.0
 
 slice-aggregate-same : tie.Need-slice-aggregate-same
@@ -137,7 +137,7 @@ slice-aggregate-same c =
     let p = kept (curved e) in
     let z = start p in
     sym (back_long _ _ p.keep-points.last.1.1.1.1.1.0 (p.keep-points.kept.1.1.1.1.1.0 ∙ z.pre.4)
-    (names-part _ _) e.draw-parents.new.1.1.1.1.0 e.draw-parents.auto.1.1.1.1.0)
+    (names_part _ _) e.draw-parents.new.1.1.1.1.0 e.draw-parents.auto.1.1.1.1.0)
 
 same-requires : tie.Need-same-requires
 same-requires c κs = search rules
@@ -175,9 +175,9 @@ returns-2 c =
     let q = curved p in
     let k = kept q in
     let z = start k in
-    curves-yes _ _ _ _ _ _ _ _ _ _ _ _ k.keep-points.ensures q.draw-curves.ensures _ e.both-same.ensures
-    c.before.before.if1.false _ _ _ (front-back _ _ k.keep-points.last.1.1.1.1.1.0
-    (k.keep-points.kept.1.1.1.1.1.0 ∙ z.pre.4) (names-part _ _) p.draw-parents.last.1.1.1.1.0
+    curves_yes _ _ _ _ _ _ _ _ _ _ _ _ k.keep-points.ensures q.draw-curves.ensures _ e.both_same.ensures
+    c.before.before.if1.false _ _ _ (front_back _ _ k.keep-points.last.1.1.1.1.1.0
+    (k.keep-points.kept.1.1.1.1.1.0 ∙ z.pre.4) (names_part _ _) p.draw-parents.last.1.1.1.1.0
     p.draw-parents.kept.1.1.1.1.0) p.draw-parents.ensures c.same.ensures
 
 pub curves-agree-spec : {M : Type 1} → statement M

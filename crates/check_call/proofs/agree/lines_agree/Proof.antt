@@ -1,5 +1,5 @@
 use borrow.Author.Rules.{rules}
-use Rattle.check_call.proofs.Agreeing.{lines-is-drawing}
+use Rattle.check_call.proofs.Agreeing.{lines_is_drawing}
 use Rattle.check_call.proofs.agree.lines_agree.Statement.{statement}
 use Rattle.check_call.proofs.agree.lines_agree.Tie as tie
 
@@ -22,7 +22,7 @@ returns : tie.Need-returns
 returns c =
     let l = c.before.before.before.before.before.before.before.before.before in
     let q = l.before.before.before.before.before.before.before.before.before.before.requires in
-    lines-is-drawing _ _ _ _ _ _ _ _ _ q.5 l.draw-lines.ensures c.both-same.ensures
+    lines_is_drawing _ _ _ _ _ _ _ _ _ q.5 l.draw-lines.ensures c.both_same.ensures
 
 pub lines-agree-spec : {M : Type 1} → statement M
 lines-agree-spec =

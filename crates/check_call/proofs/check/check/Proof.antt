@@ -1,7 +1,7 @@
 use mathlib.Core.Path.{sym, ◌∙◌}
 use borrow.Author.Rules.{rules}
-use Rattle.table_entries.proofs.Cleared.{cleared-same}
-use Rattle.check_call.proofs.Checked.{check-refused, check-ready, check-found}
+use Rattle.table_entries.proofs.Cleared.{cleared_same}
+use Rattle.check_call.proofs.Checked.{check_refused, check_ready, check_found}
 use Rattle.check_call.proofs.check.check.Statement.{statement}
 use Rattle.check_call.proofs.check.check.Tie as tie
 
@@ -30,12 +30,12 @@ number-requires c κs = tt
 returns : tie.Need-returns
 returns c =
     let k = c.before in
-    check-refused _ _ _ _ _ k.before.refusal.ensures (λ z. c.if1.true (k.number.ensures ∙ z))
+    check_refused _ _ _ _ _ k.before.refusal.ensures (λ z. c.if1.true (k.number.ensures ∙ z))
 
 is-drawing-requires : tie.Need-is-drawing-requires
 is-drawing-requires c κs =
     let k = c.before.before.before.before.before in
-    check-ready _ _ _ _ _ k.before.refusal.ensures (sym k.number.ensures ∙ c.before.before.before.before.if1.false)
+    check_ready _ _ _ _ _ k.before.refusal.ensures (sym k.number.ensures ∙ c.before.before.before.before.if1.false)
 
 clear-four-requires : tie.Need-clear-four-requires
 clear-four-requires c κs = tt
@@ -69,8 +69,8 @@ returns-2 c =
     let d = compared e in
     let k = answered d in
     let l = d.is-drawing.kept.1.1.1.1.1.1.1.1.1 in
-    check-found _ _ _ _ _ k.before.refusal.ensures (sym k.number.ensures ∙ d.before.before.before.before.before.if1.left) _
-    (e.clear-four.ensures ∙ cleared-same _ _ _ _ _ _ _ _ l.0 l.1.0 l.1.1.0 l.1.1.1.0) _ d.is-drawing.ensures _
+    check_found _ _ _ _ _ k.before.refusal.ensures (sym k.number.ensures ∙ d.before.before.before.before.before.if1.left) _
+    (e.clear-four.ensures ∙ cleared_same _ _ _ _ _ _ _ _ l.0 l.1.0 l.1.1.0 l.1.1.1.0) _ d.is-drawing.ensures _
     c.found.ensures
 
 pub check-spec : {M : Type 1} → statement M

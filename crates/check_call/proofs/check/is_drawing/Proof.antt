@@ -1,8 +1,8 @@
 use mathlib.Core.Path.{◌∙◌}
-use Rattle.table_lengths.proofs.Tested.{stated-slots}
-use Rattle.drawing.specs.Parts.{roundOf}
-use Rattle.region_totals.proofs.Paper.{framed-below}
-use Rattle.check_call.proofs.Agreeing.{agreeing, is-drawing-no, totals-no, is-drawing-yes}
+use Rattle.table_lengths.proofs.Tested.{stated_slots}
+use Rattle.drawing.specs.Parts.{round_of}
+use Rattle.region_totals.proofs.Paper.{framed_below}
+use Rattle.check_call.proofs.Agreeing.{agreeing, is_drawing_no, totals_no, is_drawing_yes}
 use Rattle.check_call.proofs.check.is_drawing.Statement.{statement}
 use Rattle.check_call.proofs.check.is_drawing.Tie as tie
 
@@ -25,37 +25,37 @@ curved c = c.before.before.before.before.before.before.before.before
 recover-names-requires : tie.Need-recover-names-requires
 recover-names-requires c κs =
     let q = c.before.before.before.before.before.before.before.before.before.before.before.before.before.before.requires in
-    let s = stated-slots _ _ _ _ q.1 in
+    let s = stated_slots _ _ _ _ q.1 in
     let w = s.1.1.1.1 in
     (q.0, s.1.0, w.0, w.1.0, w.1.1.0)
 
 totals-agree-requires : tie.Need-totals-agree-requires
-unfolding roundOf
+unfolding round_of
 totals-agree-requires c κs =
     let n = c.before.before.before.before.before.before.before.before.before.before in
     let q = (start n).requires in
-    let k = n.recover-names.auto.1.1.1 in
-    let w = (stated-slots _ _ _ _ q.1).1.1.1.1 in (
+    let k = n.recover_names.auto.1.1.1 in
+    let w = (stated_slots _ _ _ _ q.1).1.1.1.1 in (
       q.0,
       k.0 ∙ w.0,
-      rw n.recover-names.ensures (framed-below _ _ _),
+      rw n.recover_names.ensures (framed_below _ _ _),
       k.1.0 ∙ w.1.0,
       k.1.1.0 ∙ w.1.1.0,
       w.1.1.1.0,
     )
 
 same_length : tie.Need-same-length
-same_length c = (named c.before.before.before.before.before.before.before).recover-names.auto.1.1.1.0
+same_length c = (named c.before.before.before.before.before.before.before).recover_names.auto.1.1.1.0
 
 same-length-2 : tie.Need-same-length-2
 same-length-2 c =
     let t = c.before.before.before.before.before.before.before in
-    t.totals-agree.auto.1.1.1.1.1.0 ∙ (named t).recover-names.auto.1.1.1.1.0
+    t.totals-agree.auto.1.1.1.1.1.0 ∙ (named t).recover_names.auto.1.1.1.1.0
 
 same-length-3 : tie.Need-same-length-3
 same-length-3 c =
     let t = c.before.before.before.before.before.before.before in
-    t.totals-agree.auto.1.1.1.1.1.1.0 ∙ (named t).recover-names.auto.1.1.1.1.1.0
+    t.totals-agree.auto.1.1.1.1.1.1.0 ∙ (named t).recover_names.auto.1.1.1.1.1.0
 
 same-length-4 : tie.Need-same-length-4
 same-length-4 c = c.before.before.before.before.before.before.before.totals-agree.auto.1.1.1.1.1.1.1.0
@@ -64,38 +64,38 @@ returns : tie.Need-returns
 returns c =
     let t = c.before.before.before.before.before.before.before in
     let n = named t in
-    totals-no _ _ _ (start n).pre.0 _ (t.totals-agree.ensures _ n.recover-names.ensures) c.if1.true
+    totals_no _ _ _ (start n).pre.0 _ (t.totals-agree.ensures _ n.recover_names.ensures) c.if1.true
 
 lines-agree-requires : tie.Need-lines-agree-requires
 lines-agree-requires c κs =
     let t = c.before.before.before.before.before.before.before.before.before.before.before in
     let n = named t in
     let q = (start n).pre in
-    let k = n.recover-names.kept.1.1.1 in
+    let k = n.recover_names.kept.1.1.1 in
     let m = t.totals-agree.auto.1.1.1.1.1 in
-    let w = (stated-slots _ _ _ _ q.1).1.1.1.1 in (
+    let w = (stated_slots _ _ _ _ q.1).1.1.1.1 in (
       q.0,
       k.0 ∙ w.0,
       m.0 ∙ k.1.0 ∙ w.1.0,
       m.1.0 ∙ k.1.1.0 ∙ w.1.1.0,
       m.1.1.0 ∙ w.1.1.1.0,
-      n.recover-names.ensures,
+      n.recover_names.ensures,
     )
 
 same-length-5 : tie.Need-same-length-5
-same-length-5 c = (named (totalled c.before.before.before.before.before.before.before)).recover-names.auto.1.1.1.0
+same-length-5 c = (named (totalled c.before.before.before.before.before.before.before)).recover_names.auto.1.1.1.0
 
 same-length-6 : tie.Need-same-length-6
 same-length-6 c =
     let l = c.before.before.before.before.before.before.before in
     let t = totalled l in
-    l.lines-agree.auto.1.1.1.1.1.0 ∙ t.totals-agree.kept.1.1.1.1.1.0 ∙ (named t).recover-names.kept.1.1.1.1.0
+    l.lines-agree.auto.1.1.1.1.1.0 ∙ t.totals-agree.kept.1.1.1.1.1.0 ∙ (named t).recover_names.kept.1.1.1.1.0
 
 same-length-7 : tie.Need-same-length-7
 same-length-7 c =
     let l = c.before.before.before.before.before.before.before in
     let t = totalled l in
-    l.lines-agree.auto.1.1.1.1.1.1.0 ∙ t.totals-agree.kept.1.1.1.1.1.1.0 ∙ (named t).recover-names.kept.1.1.1.1.1.0
+    l.lines-agree.auto.1.1.1.1.1.1.0 ∙ t.totals-agree.kept.1.1.1.1.1.1.0 ∙ (named t).recover_names.kept.1.1.1.1.1.0
 
 same-length-8 : tie.Need-same-length-8
 same-length-8 c =
@@ -105,7 +105,7 @@ same-length-8 c =
 returns-2 : tie.Need-returns-2
 returns-2 c =
     let l = c.before.before.before.before.before.before.before in
-    is-drawing-no _ _ _ (start (named (totalled l))).requires.0 _ l.lines-agree.ensures.0 c.if2.true
+    is_drawing_no _ _ _ (start (named (totalled l))).requires.0 _ l.lines-agree.ensures.0 c.if2.true
 
 curves-agree-requires : tie.Need-curves-agree-requires
 curves-agree-requires c κs =
@@ -113,8 +113,8 @@ curves-agree-requires c κs =
     let t = totalled l in
     let n = named t in
     let q = (start n).pre in
-    let s = stated-slots _ _ _ _ q.1 in
-    let k = n.recover-names.kept.1.1.1 in
+    let s = stated_slots _ _ _ _ q.1 in
+    let k = n.recover_names.kept.1.1.1 in
     let m = t.totals-agree.kept.1.1.1.1.1 in
     let j = l.lines-agree.auto.1.1.1.1.1 in
     let w = s.1.1.1.1 in
@@ -133,7 +133,7 @@ curves-agree-requires c κs =
 same-length-9 : tie.Need-same-length-9
 same-length-9 c =
     let e = curved c in
-    e.curves-agree.kept.1.1.1.1.1.1.1.0 ∙ (named (totalled (lined e))).recover-names.auto.1.1.1.0
+    e.curves-agree.kept.1.1.1.1.1.1.1.0 ∙ (named (totalled (lined e))).recover_names.auto.1.1.1.0
 
 same-length-10 : tie.Need-same-length-10
 same-length-10 c =
@@ -141,7 +141,7 @@ same-length-10 c =
     let l = lined e in
     let t = totalled l in
     e.curves-agree.kept.1.1.1.1.1.1.1.1.0 ∙ l.lines-agree.kept.1.1.1.1.1.0 ∙ t.totals-agree.kept.1.1.1.1.1.0
-    ∙ (named t).recover-names.kept.1.1.1.1.0
+    ∙ (named t).recover_names.kept.1.1.1.1.0
 
 same-length-11 : tie.Need-same-length-11
 same-length-11 c =
@@ -150,7 +150,7 @@ same-length-11 c =
     let t = totalled l in
     e.curves-agree.kept.1.1.1.1.1.1.1.1.1.0
     ∙ l.lines-agree.kept.1.1.1.1.1.1.0 ∙ t.totals-agree.kept.1.1.1.1.1.1.0
-    ∙ (named t).recover-names.kept.1.1.1.1.1.0
+    ∙ (named t).recover_names.kept.1.1.1.1.1.0
 
 same-length-12 : tie.Need-same-length-12
 same-length-12 c =
@@ -166,8 +166,8 @@ returns-3 c =
     let t = totalled l in
     let n = named t in
     let a = l.lines-agree.ensures in
-    is-drawing-yes _ _ _ (start n).pre.0 _ a.0 e.before.before.before.before.before.if2.left _
-    (t.totals-agree.ensures _ n.recover-names.ensures)
+    is_drawing_yes _ _ _ (start n).pre.0 _ a.0 e.before.before.before.before.before.if2.left _
+    (t.totals-agree.ensures _ n.recover_names.ensures)
     l.before.before.before.before.before.if1.left _ _ a.1 e.curves-agree.ensures
 
 pub is-drawing-spec : {M : Type 1} → statement M

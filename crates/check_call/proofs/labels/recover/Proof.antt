@@ -3,10 +3,10 @@ use Prim.Native.Nat.{◌-◌}
 use native.Mathlib.Nat.{mod-le}
 use native.Mathlib.Omega.{arith}
 use Rattle.point_darts.specs.Dart.{mark, dart}
-use Rattle.sheet_size.proofs.Limit.{within-limits}
+use Rattle.sheet_size.proofs.Limit.{within_limits}
 use Rattle.point_darts.proofs.Fit.{cells_fit}
-use Rattle.check_call.proofs.Recovering.{Recovering, recovering-none, recovering-all, recovering-fit, recovering-in}
-use Rattle.check_call.proofs.Recovering.{recovering-on, recovering-down}
+use Rattle.check_call.proofs.Recovering.{Recovering, recovering_none, recovering_all, recovering_fit, recovering_in}
+use Rattle.check_call.proofs.Recovering.{recovering_on, recovering_down}
 use Rattle.check_call.proofs.labels.recover.Statement.{statement}
 use Rattle.check_call.proofs.labels.recover.Tie as tie
 
@@ -21,24 +21,24 @@ mul-n : tie.Need-overflow-mul-n invariant-loop decreases-loop
 mul-n c = omega (arith, cells_fit _ _ c.before.before.requires.0)
 
 add-point : tie.Need-overflow-add-point invariant-loop decreases-loop
-add-point c = omega (arith, within-limits _ _ c.before.before.requires.0)
+add-point c = omega (arith, within_limits _ _ c.before.before.requires.0)
 
 loop-holds : tie.Need-loop-init invariant-loop decreases-loop
 unfolding mark
-loop-holds c = recovering-none _ _ _ _ c.before.before.requires.2
+loop-holds c = recovering_none _ _ _ _ c.before.before.requires.2
 
 leaving-requires : tie.Need-leaving-requires invariant-loop decreases-loop
 unfolding mark dart
 leaving-requires c κs =
     let l = c in
-    omega (arith, recovering-fit _ _ _ _ _ _ _ _ l.before.loop.invariant l.before.before.before.before.requires.0 l.loop-test.true)
+    omega (arith, recovering_fit _ _ _ _ _ _ _ _ l.before.loop.invariant l.before.before.before.before.requires.0 l.loop-test.true)
 
 label-at-requires : tie.Need-label-at-requires invariant-loop decreases-loop
 label-at-requires c κs =
     let l = c.before in
     let s = l.before.before.before.before in
-    let z = (within-limits _ _ s.requires.0).width_some in
-    omega (arith, c.leaving.ensures, s.requires.1, recovering-in _ _ _ _ _ _ _ _ l.before.loop.invariant z l.loop-test.true)
+    let z = (within_limits _ _ s.requires.0).width_some in
+    omega (arith, c.leaving.ensures, s.requires.1, recovering_in _ _ _ _ _ _ _ _ l.before.loop.invariant z l.loop-test.true)
 
 cast-labels : tie.Need-overflow-cast-labels invariant-loop decreases-loop
 cast-labels c = omega (arith, cells_fit _ _ c.before.before.before.before.before.before.requires.0)
@@ -56,7 +56,7 @@ add-point-2 : tie.Need-overflow-add-point-2 invariant-loop decreases-loop
 unfolding mark dart
 add-point-2 c =
     let l = c.before.before in
-    omega (arith, recovering-fit _ _ _ _ _ _ _ _ l.before.loop.invariant l.before.before.before.before.requires.0 l.loop-test.true)
+    omega (arith, recovering_fit _ _ _ _ _ _ _ _ l.before.loop.invariant l.before.before.before.before.requires.0 l.loop-test.true)
 
 add-column : tie.Need-overflow-add-column invariant-loop decreases-loop
 add-column c =
@@ -68,7 +68,7 @@ add-point-3 : tie.Need-overflow-add-point-3 invariant-loop decreases-loop
 unfolding mark dart
 add-point-3 c =
     let l = c.before.before.before in
-    omega (arith, recovering-fit _ _ _ _ _ _ _ _ l.before.loop.invariant l.before.before.before.before.requires.0 l.loop-test.true)
+    omega (arith, recovering_fit _ _ _ _ _ _ _ _ l.before.loop.invariant l.before.before.before.before.requires.0 l.loop-test.true)
 
 loop-less : tie.Need-loop-smaller invariant-loop decreases-loop
 loop-less c = omega arith
@@ -77,8 +77,8 @@ loop-again : tie.Need-loop-preserved invariant-loop decreases-loop
 loop-again c =
     let t = c.before in
     let l = t.before.before in
-    recovering-down _ _ _ _ _ _ _ _ l.before.loop.invariant _ _ t.before.leaving.ensures t.label_at.ensures
-    l.loop-test.true (within-limits _ _ l.before.before.before.before.requires.0).width_some c.if1.true
+    recovering_down _ _ _ _ _ _ _ _ l.before.loop.invariant _ _ t.before.leaving.ensures t.label_at.ensures
+    l.loop-test.true (within_limits _ _ l.before.before.before.before.requires.0).width_some c.if1.true
 
 loop-less-2 : tie.Need-loop-smaller-2 invariant-loop decreases-loop
 loop-less-2 c = omega arith
@@ -87,14 +87,14 @@ loop-again-2 : tie.Need-loop-preserved-2 invariant-loop decreases-loop
 loop-again-2 c =
     let t = c.before in
     let l = t.before.before in
-    recovering-on _ _ _ _ _ _ _ _ l.before.loop.invariant _ _ t.before.leaving.ensures t.label_at.ensures
-    l.loop-test.true (within-limits _ _ l.before.before.before.before.requires.0).width_some c.if1.false
+    recovering_on _ _ _ _ _ _ _ _ l.before.loop.invariant _ _ t.before.leaving.ensures t.label_at.ensures
+    l.loop-test.true (within_limits _ _ l.before.before.before.before.requires.0).width_some c.if1.false
 
 same_length : tie.Need-same-length invariant-loop decreases-loop
 same_length c = c.before.loop.invariant.long ∙ sym c.before.before.before.before.requires.2
 
 returns : tie.Need-returns invariant-loop decreases-loop
-returns c = recovering-all _ _ _ _ _ _ _ _ c.before.loop.invariant c.loop-test.false
+returns c = recovering_all _ _ _ _ _ _ _ _ c.before.loop.invariant c.loop-test.false
 
 pub recover-spec : {M : Type 1} → statement M
 recover-spec =

@@ -1,5 +1,5 @@
 use mathlib.Core.Path.{sym, ap, ◌∙◌}
-use Rattle.count_answer.specs.Count.{countNumber}
+use Rattle.count_answer.specs.Count.{count_number}
 use borrow.Author.Rules.{rules}
 use Rattle.count_answer.proofs.Count.number.Statement.{statement}
 use Rattle.count_answer.proofs.Count.number.Tie as tie
@@ -14,12 +14,12 @@ number-requires : tie.Need-number-requires
 number-requires c κs = search rules
 
 returns : tie.Need-returns
-unfolding countNumber
+unfolding count_number
 returns c = search rules
 
 returns-2 : tie.Need-returns-2
-unfolding countNumber
-returns-2 c = c.number.ensures ∙ sym (ap countNumber c.before.before.self.given.1)
+unfolding count_number
+returns-2 c = c.number.ensures ∙ sym (ap count_number c.before.before.self.given.1)
 
 pub number-spec : {M : Type 1} → statement M
 number-spec = tie.close (tie.spec enum_told enum-known-self number-requires returns returns-2)

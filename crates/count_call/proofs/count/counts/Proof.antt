@@ -1,9 +1,9 @@
 use mathlib.Core.Path.{◌≡◌, refl, sym, ◌∙◌}
 use Rattle.answer.specs.Answer.{number_of}
-use Rattle.table_lengths.proofs.Tested.{each-name, name-lengths}
+use Rattle.table_lengths.proofs.Tested.{each_name, name_lengths}
 use Rattle.count_call.specs.Tally.{tallied}
-use Rattle.count_call.proofs.Accepted.{accepted-clear, accepted-depths, accepted-holes, accepted-counts}
-use Rattle.count_call.proofs.Filling.{fill-refused, fill-long, fill-checked, fill_done, first-same, both-same}
+use Rattle.count_call.proofs.Accepted.{accepted_clear, accepted_depths, accepted_holes, accepted_counts}
+use Rattle.count_call.proofs.Filling.{fill_refused, fill_long, fill_checked, fill_done, first_same, both_same}
 use borrow.Author.Rules.{rules}
 use Rattle.count_call.proofs.count.counts.Statement.{statement}
 use Rattle.count_call.proofs.count.counts.Tie as tie
@@ -57,23 +57,23 @@ returns : tie.Need-returns
 unfolding tallied
 returns c =
     let k = c.before in
-    fill-refused _ _ _ _ _ _ (name-lengths _ _ _) _ _ (judged k).judge.ensures (λ z. c.if1.true (k.number.ensures ∙ z)) _ _
+    fill_refused _ _ _ _ _ _ (name_lengths _ _ _) _ _ (judged k).judge.ensures (λ z. c.if1.true (k.number.ensures ∙ z)) _ _
 
 all-depths-requires : tie.Need-all-depths-requires
 all-depths-requires c κs =
     let e = c.before in
     let j = (asked e).judge.ensures in
     let z = judged-done e in
-    let l = each-name _ _ _ _ (fill-long _ _ _ _ _ _ refl _ _ j z) in
-    accepted-depths _ _ _ _ _ _ _ _ (fill-checked _ _ _ _ _ _ refl _ _ j z) z _ l.0
+    let l = each_name _ _ _ _ (fill_long _ _ _ _ _ _ refl _ _ j z) in
+    accepted_depths _ _ _ _ _ _ _ _ (fill_checked _ _ _ _ _ _ refl _ _ j z) z _ l.0
 
 all-holes-requires : tie.Need-all-holes-requires
 all-holes-requires c κs =
     let e = c.before.before.before.before.before.before in
     let j = (asked e).judge.ensures in
     let z = judged-done e in
-    let l = each-name _ _ _ _ (fill-long _ _ _ _ _ _ refl _ _ j z) in
-    accepted-holes _ _ _ _ _ _ _ _ (fill-checked _ _ _ _ _ _ refl _ _ j z) z _ l.1.0
+    let l = each_name _ _ _ _ (fill_long _ _ _ _ _ _ refl _ _ j z) in
+    accepted_holes _ _ _ _ _ _ _ _ (fill_checked _ _ _ _ _ _ refl _ _ j z) z _ l.1.0
 
 same-length-5 : tie.Need-same-length-5
 same-length-5 c = (deepened (end c)).all-depths.auto.1.0
@@ -103,10 +103,10 @@ returns-2 c =
     let e = done d in
     let j = (asked e).judge.ensures in
     let z = judged-done e in
-    let k = fill-checked _ _ _ _ _ _ refl _ _ j z in
-    fill_done _ _ _ _ _ _ (name-lengths _ _ _) _ _ j z _ _ _ _
-    (both-same d.all-depths.ensures (f.all-holes.ensures.0 ∙ accepted-counts _ _ _ _ _ _ _ _ k z))
-    (first-same _ (f.all-holes.ensures.1 ∙ accepted-clear _ _ _ _ _ _ _ _ k z))
+    let k = fill_checked _ _ _ _ _ _ refl _ _ j z in
+    fill_done _ _ _ _ _ _ (name_lengths _ _ _) _ _ j z _ _ _ _
+    (both_same d.all-depths.ensures (f.all-holes.ensures.0 ∙ accepted_counts _ _ _ _ _ _ _ _ k z))
+    (first_same _ (f.all-holes.ensures.1 ∙ accepted_clear _ _ _ _ _ _ _ _ k z))
 
 pub counts-spec : {M : Type 1} → statement M
 counts-spec =

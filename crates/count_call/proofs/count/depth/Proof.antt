@@ -1,6 +1,6 @@
 use Rattle.paper.specs.Refusal.{deepened}
 use Rattle.count_call.proofs.Accepted.{countable}
-use Rattle.count_call.proofs.Told.{count-told}
+use Rattle.count_call.proofs.Told.{count_told}
 use borrow.Author.Rules.{rules}
 use Rattle.count_call.proofs.count.depth.Statement.{statement}
 use Rattle.count_call.proofs.count.depth.Tie as tie
@@ -28,7 +28,7 @@ same-length-4 c = (checked c).check.auto.1.1.1.1.1.1.1.1.1.1.1.1.0
 
 returns : tie.Need-returns
 unfolding deepened
-returns c = count-told _ _ _ _ _ _ _ _ (checked c).check.ensures _ c.depth-after.ensures
+returns c = count_told _ _ _ _ _ _ _ _ (checked c).check.ensures _ c.depth-after.ensures
 
 pub depth-spec : {M : Type 1} → statement M
 depth-spec =

@@ -1,7 +1,7 @@
 use mathlib.Core.Path.{◌∙◌}
 use Rattle.paper.specs.Refusal.{holed}
-use Rattle.count_call.proofs.Accepted.{accepted-lent}
-use Rattle.count_call.proofs.Told.{count-told}
+use Rattle.count_call.proofs.Accepted.{accepted_lent}
+use Rattle.count_call.proofs.Told.{count_told}
 use borrow.Author.Rules.{rules}
 use Rattle.count_call.proofs.count.holes.Statement.{statement}
 use Rattle.count_call.proofs.count.holes.Tie as tie
@@ -15,7 +15,7 @@ check-requires c κs = search rules
 
 holes-after-requires : tie.Need-holes-after-requires
 holes-after-requires c κs =
-    accepted-lent _ _ _ _ _ _ _ _ c.before.before.before.before.before.before.before.before.before.check.ensures
+    accepted_lent _ _ _ _ _ _ _ _ c.before.before.before.before.before.before.before.before.before.check.ensures
 
 same_length : tie.Need-same-length
 same_length c =
@@ -35,7 +35,7 @@ returns : tie.Need-returns
 unfolding holed
 returns c =
     let f = c.before.before in
-    rw f.holes-after.ensures.1 (count-told _ _ _ _ _ _ _ _ (checked f).check.ensures _ f.holes-after.ensures.0)
+    rw f.holes-after.ensures.1 (count_told _ _ _ _ _ _ _ _ (checked f).check.ensures _ f.holes-after.ensures.0)
 
 pub holes-spec : {M : Type 1} → statement M
 holes-spec =

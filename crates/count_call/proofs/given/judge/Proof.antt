@@ -1,5 +1,5 @@
 use mathlib.Core.Path.{sym, ◌∙◌}
-use Rattle.count_call.proofs.Filling.{judge-stopped, judge-checked}
+use Rattle.count_call.proofs.Filling.{judge_stopped, judge_checked}
 use Rattle.count_call.proofs.given.judge.Statement.{statement}
 use Rattle.count_call.proofs.given.judge.Tie as tie
 
@@ -19,7 +19,7 @@ number-requires c κs = tt
 returns : tie.Need-returns
 returns c =
     let k = c.before in
-    judge-stopped _ _ _ _ _ _ k.before.refusal.ensures (λ z. c.if1.true (k.number.ensures ∙ z))
+    judge_stopped _ _ _ _ _ _ k.before.refusal.ensures (λ z. c.if1.true (k.number.ensures ∙ z))
 
 check-requires : tie.Need-check-requires
 check-requires c κs = tt
@@ -41,7 +41,7 @@ returns-2 c =
     let k = checked c in
     let i = passed k in
     let n = i.before in
-    judge-checked _ _ _ _ _ _ n.before.refusal.ensures (sym n.number.ensures ∙ i.if1.left) _ _ k.check.ensures
+    judge_checked _ _ _ _ _ _ n.before.refusal.ensures (sym n.number.ensures ∙ i.if1.left) _ _ k.check.ensures
 
 pub judge-spec : {M : Type 1} → statement M
 judge-spec =

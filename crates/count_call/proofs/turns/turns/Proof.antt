@@ -1,9 +1,9 @@
 use mathlib.Core.Path.{◌≡◌, refl, sym, ◌∙◌}
 use Rattle.answer.specs.Answer.{number_of}
-use Rattle.table_lengths.proofs.Tested.{each-dart, dart-lengths}
+use Rattle.table_lengths.proofs.Tested.{each_dart, dart_lengths}
 use Rattle.count_call.specs.Tally.{traced}
-use Rattle.count_call.proofs.Accepted.{accepted-curves, accepted-turns}
-use Rattle.count_call.proofs.Filling.{fill-refused, fill-long, fill-checked, fill_done, both-same}
+use Rattle.count_call.proofs.Accepted.{accepted_curves, accepted_turns}
+use Rattle.count_call.proofs.Filling.{fill_refused, fill_long, fill_checked, fill_done, both_same}
 use borrow.Author.Rules.{rules}
 use Rattle.count_call.proofs.turns.turns.Statement.{statement}
 use Rattle.count_call.proofs.turns.turns.Tie as tie
@@ -54,15 +54,15 @@ returns : tie.Need-returns
 unfolding traced
 returns c =
     let k = c.before in
-    fill-refused _ _ _ _ _ _ (dart-lengths _ _ _) _ _ (judged k).judge.ensures (λ z. c.if1.true (k.number.ensures ∙ z)) _ _
+    fill_refused _ _ _ _ _ _ (dart_lengths _ _ _) _ _ (judged k).judge.ensures (λ z. c.if1.true (k.number.ensures ∙ z)) _ _
 
 all-turns-requires : tie.Need-all-turns-requires
 all-turns-requires c κs =
     let e = c.before.before in
     let j = (asked e).judge.ensures in
     let z = judged-done e in
-    let l = each-dart _ _ _ _ (fill-long _ _ _ _ _ _ refl _ _ j z) in
-    accepted-curves _ _ _ _ _ _ _ _ (fill-checked _ _ _ _ _ _ refl _ _ j z) z _ _ l.0 l.1.0
+    let l = each_dart _ _ _ _ (fill_long _ _ _ _ _ _ refl _ _ j z) in
+    accepted_curves _ _ _ _ _ _ _ _ (fill_checked _ _ _ _ _ _ refl _ _ j z) z _ _ l.0 l.1.0
 
 same-length-5 : tie.Need-same-length-5
 same-length-5 c = (end c).all-turns.auto.1.1.1.1.1.0
@@ -89,9 +89,9 @@ returns-2 c =
     let e = done f in
     let j = (asked e).judge.ensures in
     let z = judged-done e in
-    let t = accepted-turns _ _ _ _ _ _ _ _ (fill-checked _ _ _ _ _ _ refl _ _ j z) z in
-    fill_done _ _ _ _ _ _ (dart-lengths _ _ _) _ _ j z _ _ _ _
-    (both-same (f.all-turns.ensures.0 ∙ t.0) (f.all-turns.ensures.1 ∙ t.1)) refl
+    let t = accepted_turns _ _ _ _ _ _ _ _ (fill_checked _ _ _ _ _ _ refl _ _ j z) z in
+    fill_done _ _ _ _ _ _ (dart_lengths _ _ _) _ _ j z _ _ _ _
+    (both_same (f.all-turns.ensures.0 ∙ t.0) (f.all-turns.ensures.1 ∙ t.1)) refl
 
 pub turns-spec : {M : Type 1} → statement M
 turns-spec =

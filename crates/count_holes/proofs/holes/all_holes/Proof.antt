@@ -7,7 +7,7 @@ use Rattle.point_darts.specs.Dart.{slots}
 use Rattle.paper.specs.Level.{tops}
 use Rattle.paper.specs.Joining.{on}
 use Rattle.count_holes.specs.Round.{pieces}
-use Rattle.count_holes.proofs.Counting.{trimmed-counts}
+use Rattle.count_holes.proofs.Counting.{trimmed_counts}
 use borrow.Author.Rules.{rules}
 use Rattle.count_holes.proofs.holes.all_holes.Statement.{statement}
 use Rattle.count_holes.proofs.holes.all_holes.Tie as tie
@@ -78,7 +78,7 @@ returns c =
     let q = (start p).pre in
     let long = length_front a.work.now f.find-all.last.1.1.1.1.0 p.points.result f.find-all.kept.1.1.1.1.0 in
     let rounds = pieces a.side.now (tops a.width a.height (on a.side.now)) in
-    (trimmed-counts rounds _ _ (rw q.5 at f.find-all.ensures.0) q.3 _ t.trim.ensures, rw long at e.clear.ensures)
+    (trimmed_counts rounds _ _ (rw q.5 at f.find-all.ensures.0) q.3 _ t.trim.ensures, rw long at e.clear.ensures)
 
 pub all-holes-spec : {M : Type 1} → statement M
 all-holes-spec =

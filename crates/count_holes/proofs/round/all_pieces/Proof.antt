@@ -4,7 +4,7 @@ use native.Mathlib.Omega.{arith}
 use lib.ListN.{length}
 use borrow.Author.Rules.{rules}
 use Rattle.point_darts.specs.Dart.{mark, dart}
-use Rattle.count_holes.proofs.Rounding.{Tallied, tallied-none, tallied-past, tallied-more, tallied-all, rounded-le}
+use Rattle.count_holes.proofs.Rounding.{Tallied, tallied_none, tallied_past, tallied_more, tallied_all, rounded_le}
 use Rattle.count_holes.proofs.round.all_pieces.Statement.{statement}
 use Rattle.count_holes.proofs.round.all_pieces.Tie as tie
 
@@ -45,7 +45,7 @@ loop-holds : tie.Need-loop-init invariant-loop decreases-loop
 loop-holds c =
     let e = c.before.before in
     let a = e.before.before.before.before.before.args in
-    (tallied-none _ _ _ (length a.tally.now) _ e.clear.ensures refl, omega arith)
+    (tallied_none _ _ _ (length a.tally.now) _ e.clear.ensures refl, omega arith)
 
 round-at-requires : tie.Need-round-at-requires invariant-loop decreases-loop
 unfolding dart
@@ -74,7 +74,7 @@ add-tally c =
     let a = (start l).args in
     let z = (start l).pre.0 in
     let r = d.before.round-at.result in
-    omega (arith, l.loop.inv.0.entry r d.if1.true, rounded-le a.side.now a.tops.now r l.loop.p, z.four, z.fits)
+    omega (arith, l.loop.inv.0.entry r d.if1.true, rounded_le a.side.now a.tops.now r l.loop.p, z.four, z.fits)
 
 slice-write-tally : tie.Need-slice-write-tally invariant-loop decreases-loop
 slice-write-tally c = round-in c.before
@@ -85,7 +85,7 @@ loop-less c = omega arith
 loop-again : tie.Need-loop-preserved invariant-loop decreases-loop
 loop-again c =
     let d = c.before in
-    (tallied-more _ _ _ _ _ _ (at-loop d).loop.invariant.0 d.before.round-at.ensures d.if1.true, omega arith)
+    (tallied_more _ _ _ _ _ _ (at-loop d).loop.invariant.0 d.before.round-at.ensures d.if1.true, omega arith)
 
 loop-less-2 : tie.Need-loop-smaller-2 invariant-loop decreases-loop
 loop-less-2 c = omega arith
@@ -93,7 +93,7 @@ loop-less-2 c = omega arith
 loop-again-2 : tie.Need-loop-preserved-2 invariant-loop decreases-loop
 loop-again-2 c =
     let r = c.before in
-    (tallied-past _ _ _ _ _ _ r.before.before.loop.invariant.0 r.round-at.ensures c.if1.false, omega arith)
+    (tallied_past _ _ _ _ _ _ r.before.before.loop.invariant.0 r.round-at.ensures c.if1.false, omega arith)
 
 same_length : tie.Need-same-length invariant-loop decreases-loop
 same_length c =
@@ -105,7 +105,7 @@ returns c =
     let l = c.before in
     let q = (start l).requires in
     let k = (emptied l).clear.auto.0 in
-    rw k at (tallied-all _ _ _ q.0 (omega (arith, k, q.1)) _ _ l.loop.invariant.0 (omega arith))
+    rw k at (tallied_all _ _ _ q.0 (omega (arith, k, q.1)) _ _ l.loop.invariant.0 (omega arith))
 
 pub all-pieces-spec : {M : Type 1} → statement M
 all-pieces-spec =

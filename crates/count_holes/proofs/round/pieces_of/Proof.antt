@@ -4,12 +4,12 @@ use Prim.Native.Nat.{◌-◌, ◌≤◌}
 use native.Mathlib.Omega.{arith}
 use Rattle.laws.specs.Table.{count}
 use Rattle.point_darts.specs.Dart.{mark, dart}
-use Rattle.count_holes.proofs.Rounding.{roundedBy, rounded-none, rounded-more, rounded-same, rounded-le, rounded-all}
+use Rattle.count_holes.proofs.Rounding.{rounded_by, rounded_none, rounded_more, rounded_same, rounded_le, rounded_all}
 use Rattle.count_holes.proofs.round.pieces_of.Statement.{statement}
 use Rattle.count_holes.proofs.round.pieces_of.Tie as tie
 
 abbrev invariant-loop : tie.invariant-loop
-invariant-loop side tops name last count₀ p₀ count p = (count ≡ Rattle.laws.specs.Table.count p (roundedBy side tops name)) × (p ≤ last)
+invariant-loop side tops name last count₀ p₀ count p = (count ≡ Rattle.laws.specs.Table.count p (rounded_by side tops name)) × (p ≤ last)
 
 abbrev decreases-loop : tie.decreases-loop
 decreases-loop side tops name last count₀ p₀ count p = last - p
@@ -30,7 +30,7 @@ unfolding mark
 cast-last c = let z = c.before.before.requires.0 in omega (arith, z.four, z.fits)
 
 loop-holds : tie.Need-loop-init invariant-loop decreases-loop
-loop-holds c = (rounded-none _ _ _, omega arith)
+loop-holds c = (rounded_none _ _ _, omega arith)
 
 round-at-requires : tie.Need-round-at-requires invariant-loop decreases-loop
 unfolding dart
@@ -44,7 +44,7 @@ add-count c =
     let l = at-loop c in
     let a = (start l).args in
     let z = (start l).pre.0 in
-    let b = rounded-le a.side.now a.tops.now a.name l.loop.p in
+    let b = rounded_le a.side.now a.tops.now a.name l.loop.p in
     ⊎_elim (λ i. omega (arith, b, z.four, z.fits, i.1)) (λ i. omega (arith, b, z.four, z.fits, i.1)) c.before.if1.branch
 
 add-p : tie.Need-overflow-add-p invariant-loop decreases-loop
@@ -59,8 +59,8 @@ loop-again c =
     let l = at-loop c in
     let r = c.before.before in
     let n = l.loop.inv.0 in (
-      ⊎_elim (λ i. omega (arith, rounded-more _ _ _ _ _ _ n r.round-at.ensures i.0.taken, i.1))
-          (λ i. omega (arith, rounded-same _ _ _ _ _ _ n r.round-at.ensures i.0.left, i.1))
+      ⊎_elim (λ i. omega (arith, rounded_more _ _ _ _ _ _ n r.round-at.ensures i.0.taken, i.1))
+          (λ i. omega (arith, rounded_same _ _ _ _ _ _ n r.round-at.ensures i.0.left, i.1))
           c.before.if1.branch,
       omega arith,
     )
@@ -69,7 +69,7 @@ returns : tie.Need-returns invariant-loop decreases-loop
 returns c =
     let l = c.before in
     let q = (start l).requires in
-    rounded-all _ _ q.0 _ _ _ q.1 l.loop.invariant.0 (omega arith)
+    rounded_all _ _ q.0 _ _ _ q.1 l.loop.invariant.0 (omega arith)
 
 pub pieces-of-spec : {M : Type 1} → statement M
 pieces-of-spec =

@@ -3,7 +3,7 @@ use native.Mathlib.Omega.{arith}
 use lib.ListN.{length}
 use borrow.Author.Rules.{rules}
 use Rattle.point_darts.specs.Dart.{mark, dart}
-use Rattle.count_holes.proofs.Rounding.{round-own, round-none}
+use Rattle.count_holes.proofs.Rounding.{round_own, round_none}
 use Rattle.count_holes.proofs.round.round_at.Statement.{statement}
 use Rattle.count_holes.proofs.round.round_at.Tie as tie
 
@@ -46,11 +46,11 @@ shared-slice-read-if1 c = search rules
 returns : tie.Need-returns
 returns c =
     let f = c.before.before.before in
-    round-own _ _ _ c.if1.true _ f.first_slot.ensures (back_in f)
+    round_own _ _ _ c.if1.true _ f.first_slot.ensures (back_in f)
 
 returns-2 : tie.Need-returns-2
 unfolding mark
-returns-2 c = round-none _ _ _ c.if1.false
+returns-2 c = round_none _ _ _ c.if1.false
 
 pub round-at-spec : {M : Type 1} → statement M
 round-at-spec =

@@ -1,18 +1,18 @@
 use mathlib.Core.Path.{sym, ◌∙◌}
 use Prim.Native.Nat.{◌-◌, ◌<◌}
 use native.Mathlib.Omega.{arith}
-use Rattle.point_rules.specs.Turn.{isRight, isLeft}
-use Rattle.table_entries.proofs.Filled.{Filled, filled_none, filled_more, filled-all}
-use Rattle.paper_laws.proofs.Marks.{slots-most}
-use Rattle.count_turns.specs.Turns.{turnsAt, turnTable}
-use Rattle.count_turns.proofs.Taking.{whole-slots}
+use Rattle.point_rules.specs.Turn.{is_right, is_left}
+use Rattle.table_entries.proofs.Filled.{Filled, filled_none, filled_more, filled_all}
+use Rattle.paper_laws.proofs.Marks.{slots_most}
+use Rattle.count_turns.specs.Turns.{turns_at, turn_table}
+use Rattle.count_turns.proofs.Taking.{whole_slots}
 use Rattle.count_turns.proofs.turns.all_turns.Statement.{statement}
 use Rattle.count_turns.proofs.turns.all_turns.Tie as tie
 
 abbrev invariant-loop : tie.invariant-loop
 invariant-loop width height next1 next3 other3 right₀ left₀ n d₀ right left d =
-    Filled n (turnsAt n next1 next3 other3 isRight isLeft) d right₀ right
-    × Filled n (turnsAt n next1 next3 other3 isLeft isRight) d left₀ left
+    Filled n (turns_at n next1 next3 other3 is_right is_left) d right₀ right
+    × Filled n (turns_at n next1 next3 other3 is_left is_right) d left₀ left
 
 abbrev decreases-loop : tie.decreases-loop
 decreases-loop width height next1 next3 other3 right₀ left₀ n d₀ right left d = n - d
@@ -31,7 +31,7 @@ round c = (tested c).before
 small : (c : tie.After-turns-at invariant-loop decreases-loop) → (round c).loop.d < 32412
 small c =
     let k = (round c).before in
-    omega (arith, (tested c).loop-test.true, k.slots.ensures, slots-most _ _ (start k).pre.0)
+    omega (arith, (tested c).loop-test.true, k.slots.ensures, slots_most _ _ (start k).pre.0)
 
 slots-requires : tie.Need-slots-requires invariant-loop decreases-loop
 slots-requires c κs = c.before.before.before.before.before.requires.0
@@ -48,7 +48,7 @@ turns-at-requires c κs =
     let s = start t.before.before in
     let (r, l) = t.before.loop.invariant in
     record {
-      lines = whole-slots _ _ s.args.next1.now s.pre.0 s.pre.1;
+      lines = whole_slots _ _ s.args.next1.now s.pre.0 s.pre.1;
       below = t.loop-test.true;
       rights = r.long;
       lefts = l.long;
@@ -95,11 +95,11 @@ same-length-2 : tie.Need-same-length-2 invariant-loop decreases-loop
 same-length-2 c = let k = c.before.before in c.before.loop.invariant.1.long ∙ k.slots.ensures ∙ sym (start k).requires.3
 
 returns : tie.Need-returns invariant-loop decreases-loop
-unfolding turnTable
+unfolding turn_table
 returns c =
     let i = c.before.loop.invariant in
     let t = c.loop-test.false in
-    rw (← c.before.before.slots.ensures) (filled-all _ _ _ _ _ i.0 t, filled-all _ _ _ _ _ i.1 t)
+    rw (← c.before.before.slots.ensures) (filled_all _ _ _ _ _ i.0 t, filled_all _ _ _ _ _ i.1 t)
 
 pub all-turns-spec : {M : Type 1} → statement M
 all-turns-spec =

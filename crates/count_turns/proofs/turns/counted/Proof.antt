@@ -1,5 +1,5 @@
 use mathlib.Core.Path.{refl}
-use Rattle.point_rules.specs.Turn.{isRight, isLeft}
+use Rattle.point_rules.specs.Turn.{is_right, is_left}
 use borrow.Author.Rules.{rules}
 use Rattle.count_turns.proofs.turns.counted.Statement.{statement}
 use Rattle.count_turns.proofs.turns.counted.Tie as tie
@@ -20,23 +20,23 @@ enum-told-5 : tie.Need-enum-told-5
 enum-told-5 c = search rules
 
 returns : tie.Need-returns
-unfolding isRight isLeft
+unfolding is_right is_left
 returns c = rw c.enum_told.given.1 (refl, refl)
 
 returns-2 : tie.Need-returns-2
-unfolding isRight isLeft
+unfolding is_right is_left
 returns-2 c = rw c.enum-told2.given.1 (refl, refl)
 
 returns-3 : tie.Need-returns-3
-unfolding isRight isLeft
+unfolding is_right is_left
 returns-3 c = rw c.enum-told3.given.1 (refl, refl)
 
 returns-4 : tie.Need-returns-4
-unfolding isRight isLeft
+unfolding is_right is_left
 returns-4 c = rw c.enum-told4.given.1 (refl, refl)
 
 returns-5 : tie.Need-returns-5
-unfolding isRight isLeft
+unfolding is_right is_left
 returns-5 c = rw c.enum-told5.given.1 (refl, refl)
 
 pub counted_spec : {M : Type 1} → statement M

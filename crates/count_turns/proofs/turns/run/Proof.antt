@@ -1,5 +1,5 @@
 use native.Mathlib.Omega.{arith}
-use Rattle.count_turns.proofs.Taking.{Going, going-none, going-stop, going-out, right-fits, left-fits, going_more}
+use Rattle.count_turns.proofs.Taking.{Going, going_none, going_stop, going_out, right_fits, left_fits, going_more}
 use borrow.Author.Rules.{rules}
 use Rattle.count_turns.proofs.turns.run.Statement.{statement}
 use Rattle.count_turns.proofs.turns.run.Tie as tie
@@ -19,10 +19,10 @@ get-requires : tie.Need-get-requires invariant-loop decreases-loop
 get-requires c κs = search rules
 
 loop-holds : tie.Need-loop-init invariant-loop decreases-loop
-loop-holds c = going-none _ _ _ _ _ c.get.ensures
+loop-holds c = going_none _ _ _ _ _ c.get.ensures
 
 returns : tie.Need-returns invariant-loop decreases-loop
-returns c = going-stop _ _ _ _ _ _ _ _ _ c.before.before.loop.invariant c.if1.true
+returns c = going_stop _ _ _ _ _ _ _ _ _ c.before.before.loop.invariant c.if1.true
 
 turn-into-requires : tie.Need-turn-into-requires invariant-loop decreases-loop
 turn-into-requires c κs = c.before.before.before.before.before.requires
@@ -36,7 +36,7 @@ add_right c =
     let t = k.before in
     omega (
       arith,
-      right-fits _ _ _ _ _ _ _ _ _ (round t).loop.invariant t.before.before.loop-test.true t.before.if1.false _
+      right_fits _ _ _ _ _ _ _ _ _ (round t).loop.invariant t.before.before.loop-test.true t.before.if1.false _
           t.turn-into.ensures _ k.counted.ensures.0,
     )
 
@@ -46,7 +46,7 @@ add_left c =
     let t = k.before in
     omega (
       arith,
-      left-fits _ _ _ _ _ _ _ _ _ (round t).loop.invariant t.before.before.loop-test.true t.before.if1.false _
+      left_fits _ _ _ _ _ _ _ _ _ (round t).loop.invariant t.before.before.loop-test.true t.before.if1.false _
           t.turn-into.ensures _ k.counted.ensures.1,
     )
 
@@ -67,7 +67,7 @@ loop-again c =
     _ t.turn-into.ensures _ _ _ k.counted.ensures.0 k.counted.ensures.1 c.get2.ensures
 
 returns-2 : tie.Need-returns-2 invariant-loop decreases-loop
-returns-2 c = going-out _ _ _ _ _ _ _ _ _ c.before.loop.invariant c.loop-test.false
+returns-2 c = going_out _ _ _ _ _ _ _ _ _ c.before.loop.invariant c.loop-test.false
 
 pub run_spec : {M : Type 1} → statement M
 run_spec =

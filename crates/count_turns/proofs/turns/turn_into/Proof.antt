@@ -1,4 +1,4 @@
-use Rattle.count_turns.proofs.Taking.{turning-mask}
+use Rattle.count_turns.proofs.Taking.{turning_mask}
 use borrow.Author.Rules.{rules}
 use Rattle.count_turns.proofs.turns.turn_into.Statement.{statement}
 use Rattle.count_turns.proofs.turns.turn_into.Tie as tie
@@ -18,7 +18,7 @@ next-line-requires c κs = search rules
 returns : tie.Need-returns
 returns c =
     let l = c.before.before in
-    turning-mask _ _ _ _ _ _ l.before.point.ensures l.lines_at.ensures c.before.direction.ensures _ c.next-line.ensures.1
+    turning_mask _ _ _ _ _ _ l.before.point.ensures l.lines_at.ensures c.before.direction.ensures _ c.next-line.ensures.1
 
 pub turn-into-spec : {M : Type 1} → statement M
 turn-into-spec =

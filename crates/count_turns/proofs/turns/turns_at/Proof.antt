@@ -1,7 +1,7 @@
 use mathlib.Core.Path.{sym, ◌∙◌}
 use native.Mathlib.Omega.{arith}
 use Rattle.point_darts.specs.Dart.{mark}
-use Rattle.count_turns.proofs.Taking.{turns-off, turns-walked, other-below, counted-met}
+use Rattle.count_turns.proofs.Taking.{turns_off, turns_walked, other_below, counted_met}
 use borrow.Author.Rules.{rules}
 use Rattle.count_turns.proofs.turns.turns_at.Statement.{statement}
 use Rattle.count_turns.proofs.turns.turns_at.Tie as tie
@@ -21,7 +21,7 @@ unfolding mark
 returns c =
     let e = c.before.get.ensures in
     let z = c.if1.true in
-    (turns-off _ _ _ _ _ _ _ _ e z, turns-off _ _ _ _ _ _ _ _ e z)
+    (turns_off _ _ _ _ _ _ _ _ e z, turns_off _ _ _ _ _ _ _ _ e z)
 
 get-requires-2 : tie.Need-get-requires-2
 get-requires-2 c κs = search rules
@@ -39,7 +39,7 @@ shared-slice-read-t15 : tie.Need-shared-slice-read-t15
 shared-slice-read-t15 c =
     let i = c.before in
     let k = i.before in
-    let b = other-below (start (asked k)).requires _ k.before.get2.ensures (sym k.is-met.ensures ∙ i.if2.true) in
+    let b = other_below (start (asked k)).requires _ k.before.get2.ensures (sym k.is-met.ensures ∙ i.if2.true) in
     omega (arith, b.0, b.1)
 
 cast-t16 : tie.Need-overflow-cast-t16
@@ -52,7 +52,7 @@ shared-slice-read-t19 : tie.Need-shared-slice-read-t19
 shared-slice-read-t19 c =
     let i = c.before.before in
     let k = i.before in
-    let b = other-below (start (asked k)).requires _ k.before.get2.ensures (sym k.is-met.ensures ∙ i.if2.true) in
+    let b = other_below (start (asked k)).requires _ k.before.get2.ensures (sym k.is-met.ensures ∙ i.if2.true) in
     omega (arith, b.0, b.1)
 
 returns-2 : tie.Need-returns-2
@@ -61,7 +61,7 @@ returns-2 c =
     let i = c.before.before in
     let k = i.before in
     let q = asked k in
-    counted-met (start q).pre _ k.before.get2.ensures (sym k.is-met.ensures ∙ i.if2.true) _
+    counted_met (start q).pre _ k.before.get2.ensures (sym k.is-met.ensures ∙ i.if2.true) _
     q.before.get.ensures q.if1.left
 
 run-requires : tie.Need-run-requires
@@ -75,8 +75,8 @@ returns-3 c =
     let q = asked k in
     let m = sym k.is-met.ensures ∙ i.if2.false in
     let e = q.before.get.ensures in (
-      turns-walked _ _ _ _ _ _ _ _ e q.if1.left m _ c.run.ensures.0,
-      turns-walked _ _ _ _ _ _ _ _ e q.if1.left m _ c.run.ensures.1,
+      turns_walked _ _ _ _ _ _ _ _ e q.if1.left m _ c.run.ensures.0,
+      turns_walked _ _ _ _ _ _ _ _ e q.if1.left m _ c.run.ensures.1,
     )
 
 pub turns-at-spec : {M : Type 1} → statement M

@@ -5,8 +5,8 @@ use lib.ListN.{length}
 use lib.Seq.{slice}
 use Rattle.laws.specs.Equal.{equal}
 use Rattle.deck_card.specs.Card.{long, card}
-use Rattle.deck_card.proofs.Cards.{length-card}
-use Rattle.deck_card.proofs.Every.{equal-stop, equal-go, equal-end}
+use Rattle.deck_card.proofs.Cards.{length_card}
+use Rattle.deck_card.proofs.Every.{equal_stop, equal_go, equal_end}
 use Rattle.deck_card.proofs.bytes.agrees.Statement.{statement}
 use Rattle.deck_card.proofs.bytes.agrees.Tie as tie
 
@@ -20,7 +20,7 @@ decreases-loop bytes content number from to i₀ i = to - i
 
 -- the card is long enough
 reach : (s : tie.Start invariant-loop decreases-loop) → s.args.to ≤ length (card s.args.number s.args.content.now)
-reach s = rw (length-card s.args.number s.args.content.now s.requires.0.0) s.requires.1.1.1
+reach s = rw (length_card s.args.number s.args.content.now s.requires.0.0) s.requires.1.1.1
 
 loop-holds : tie.Need-loop-init invariant-loop decreases-loop
 loop-holds c = (c.before.before.requires.1.0, refl)
@@ -40,7 +40,7 @@ returns c =
     let at-loop = at-loop-test.before in
     let s = at-loop.before.before.before in
     let k = card s.args.number s.args.content.now in
-    sym (equal-stop s.args.bytes.now k s.args.to s.requires.1.1.0 (reach s) _
+    sym (equal_stop s.args.bytes.now k s.args.to s.requires.1.1.0 (reach s) _
     at-loop-test.loop-test.true (λ q. c.if1.true (q ∙ sym c.before.byte.ensures)))
     ∙ at-loop.loop.invariant.1
 
@@ -58,7 +58,7 @@ loop-again c =
     let k = card s.args.number s.args.content.now in
     let h : at-loop.loop.i + 1 ≤ s.args.to = omega arith in (
       h,
-      equal-go s.args.bytes.now k s.args.to s.requires.1.1.0 (reach s) _ at-loop-test.loop-test.true
+      equal_go s.args.bytes.now k s.args.to s.requires.1.1.0 (reach s) _ at-loop-test.loop-test.true
           (c.if1.false ∙ c.before.byte.ensures)
           ∙ at-loop.loop.invariant.1,
     )
@@ -67,7 +67,7 @@ returns-2 : tie.Need-returns-2 invariant-loop decreases-loop
 returns-2 c =
     let s = c.before.before.before.before in
     let h : c.before.loop.i ≡ s.args.to = omega arith in
-    sym (equal-end s.args.bytes.now (card s.args.number s.args.content.now) s.args.to
+    sym (equal_end s.args.bytes.now (card s.args.number s.args.content.now) s.args.to
     c.before.loop.i h) ∙ c.before.loop.invariant.1
 
 pub agrees-spec : {M : Type 1} → statement M

@@ -2,7 +2,7 @@ use mathlib.Core.Path.{sym, ◌∙◌}
 use native.Mathlib.Omega.{arith}
 use borrow.Author.Rules.{rules}
 use Rattle.deck_card.specs.Card.{columns, places, long, blank, feed}
-use Rattle.deck_card.proofs.Cards.{card-content, card-blank, card-digit, card-feed}
+use Rattle.deck_card.proofs.Cards.{card_content, card_blank, card_digit, card_feed}
 use Rattle.deck_card.proofs.bytes.byte.Statement.{statement}
 use Rattle.deck_card.proofs.bytes.byte.Tie as tie
 
@@ -18,14 +18,14 @@ cast-result c = omega (arith, c.before.before.before.requires.0.1 c.before.befor
 returns : tie.Need-returns
 returns c =
     let s = c.before.before.before in
-    sym (card-content s.args.number s.args.content.now s.requires.0.0 s.args.place
+    sym (card_content s.args.number s.args.content.now s.requires.0.0 s.args.place
     c.before.if1.true)
 
 returns-2 : tie.Need-returns-2
 unfolding columns blank
 returns-2 c =
     let s = c.before.before.before in
-    sym (card-blank s.args.number s.args.content.now s.requires.0.0 s.args.place c.before.if1.false
+    sym (card_blank s.args.number s.args.content.now s.requires.0.0 s.args.place c.before.if1.false
     c.if2.true)
 
 add-if3 : tie.Need-overflow-add-if3
@@ -49,14 +49,14 @@ returns-3 c =
     let at-if2 = c.before.before in
     let s = at-if2.before.before.before in
     c.digit.ensures
-    ∙ sym (card-digit s.args.number s.args.content.now s.requires.0.0 s.args.place at-if2.if2.false
+    ∙ sym (card_digit s.args.number s.args.content.now s.requires.0.0 s.args.place at-if2.if2.false
     c.before.if3.true)
 
 returns-4 : tie.Need-returns-4
 unfolding columns places long feed
 returns-4 c =
     let s = c.before.before.before.before in
-    sym (card-feed s.args.number s.args.content.now s.requires.0.0 s.args.place c.if3.false
+    sym (card_feed s.args.number s.args.content.now s.requires.0.0 s.args.place c.if3.false
     s.requires.1)
 
 pub byte-spec : {M : Type 1} → statement M

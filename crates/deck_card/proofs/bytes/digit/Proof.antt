@@ -2,7 +2,7 @@ use mathlib.Core.Path.{◌≡◌, refl, ◌∙◌}
 use Prim.Native.Nat.{ℕ, ◌≤◌}
 use native.Mathlib.Omega.{arith}
 use Rattle.deck_card.specs.Card.{digit}
-use Rattle.deck_card.proofs.Cards.{digit-less}
+use Rattle.deck_card.proofs.Cards.{digit_less}
 use Rattle.deck_card.proofs.bytes.digit.Statement.{statement}
 use Rattle.deck_card.proofs.bytes.digit.Tie as tie
 
@@ -22,7 +22,7 @@ loop-less : tie.Need-loop-smaller invariant-loop decreases-loop
 loop-less c = omega arith
 
 loop-again : tie.Need-loop-preserved invariant-loop decreases-loop
-loop-again c = digit-less _ _ c.loop-test.true ∙ c.before.loop.invariant
+loop-again c = digit_less _ _ c.loop-test.true ∙ c.before.loop.invariant
 
 cast-result : tie.Need-overflow-cast-result invariant-loop decreases-loop
 cast-result c = omega arith

@@ -3,7 +3,7 @@ use Prim.Native.Nat.{◌-◌, ◌≤◌, ◌<◌}
 use native.Mathlib.Omega.{arith}
 use lib.ListN.{length, take, length-set}
 use Rattle.deck_card.specs.Card.{long, card}
-use Rattle.deck_card.proofs.Cards.{length-card}
+use Rattle.deck_card.proofs.Cards.{length_card}
 use Rattle.deck_card.proofs.Table.{fill_more, fill_end}
 use Rattle.deck_card.proofs.bytes.put.Statement.{statement}
 use Rattle.deck_card.proofs.bytes.put.Tie as tie
@@ -34,7 +34,7 @@ loop-again c =
     let at-loop = c.before.before in
     let s = at-loop.before.before.before in
     let l = at-loop.loop in
-    let n = length-card s.args.number s.args.content.now s.requires.0.0 in
+    let n = length_card s.args.number s.args.content.now s.requires.0.0 in
     let h : l.i < length (card s.args.number s.args.content.now) = omega arith in (
       length-set l.bytes l.i c.byte.result ∙ l.invariant.0,
       fill_more l.bytes (card s.args.number s.args.content.now) l.i c.byte.result
@@ -48,7 +48,7 @@ returns : tie.Need-returns invariant-loop decreases-loop
 returns c =
     let s = c.before.before.before.before in
     let l = c.before.loop in
-    let n = length-card s.args.number s.args.content.now s.requires.0.0 in
+    let n = length_card s.args.number s.args.content.now s.requires.0.0 in
     let h : length (card s.args.number s.args.content.now) ≤ l.i = omega arith in
     fill_end l.bytes (card s.args.number s.args.content.now) l.i c.loop-test.false h l.invariant.1
 

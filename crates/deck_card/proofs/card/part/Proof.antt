@@ -1,7 +1,7 @@
 use mathlib.Core.Path.{refl, sym}
 use lib.Seq.{length-take-le}
 use borrow.Author.Rules.{rules}
-use Rattle.deck_card.proofs.Parts.{part-refused, part-given, part-long}
+use Rattle.deck_card.proofs.Parts.{part_refused, part_given, part_long}
 use Rattle.deck_card.proofs.card.part.Statement.{statement}
 use Rattle.deck_card.proofs.card.part.Tie as tie
 
@@ -16,7 +16,7 @@ returns c =
     let at-part-refusal = c.before.before in
     let start = at-part-refusal.before.before in
     let a = start.args in (
-      sym (part-refused a.width a.card.now (rw (← at-part-refusal.part-refusal.ensures) c.before.if1.true)),
+      sym (part_refused a.width a.card.now (rw (← at-part-refusal.part-refusal.ensures) c.before.if1.true)),
       refl,
     )
 
@@ -26,14 +26,14 @@ slice-aggregate-result-2 c =
     let start = at-part-refusal.before.before in
     let a = start.args in
     sym (length-take-le a.width a.card.now
-    (part-long a.width a.card.now (rw (← at-part-refusal.part-refusal.ensures) c.before.if1.false)))
+    (part_long a.width a.card.now (rw (← at-part-refusal.part-refusal.ensures) c.before.if1.false)))
 
 returns-2 : tie.Need-returns-2
 returns-2 c =
     let at-part-refusal = c.before.before in
     let start = at-part-refusal.before.before in
     let a = start.args in (
-      sym (part-given a.width a.card.now (rw (← at-part-refusal.part-refusal.ensures) c.before.if1.false)),
+      sym (part_given a.width a.card.now (rw (← at-part-refusal.part-refusal.ensures) c.before.if1.false)),
       refl,
     )
 

@@ -6,7 +6,7 @@ use borrow.Author.Tests.{eq-eqb, ne_eqb, not-true, not-false}
 use Rattle.deck_card.specs.Card.{columns, places, long}
 use Rattle.deck_card.proofs.Parts.{whole_is}
 use Rattle.deck_faults.specs.Fault.{form}
-use Rattle.deck_faults.proofs.Forms.{bears-is}
+use Rattle.deck_faults.proofs.Forms.{bears_is}
 use Rattle.deck_faults.proofs.form.refusal.Statement.{statement}
 use Rattle.deck_faults.proofs.form.refusal.Tie as tie
 
@@ -39,7 +39,7 @@ agrees-requires c κs =
     let at-whole = c.before.before in
     let start = at-whole.before.before.before in
     let n = (whole_is start.args.card.now
-    (sym at-whole.whole.ensures ∙ not-false at-whole.whole.result c.before.if2.false)).length-is in
+    (sym at-whole.whole.ensures ∙ not-false at-whole.whole.result c.before.if2.false)).length_is in
     omega arith
 
 -- what is left to judge: the number
@@ -55,7 +55,7 @@ decided c =
       ne_eqb _ _ at-if1.if1.false,
       ← at-whole.whole.ensures,
       not-false at-whole.whole.result at-if2.if2.false,
-      bears-is,
+      bears_is,
       ← c.agrees.ensures,
     )
 

@@ -5,9 +5,9 @@ use borrow.Author.Rules.{rules}
 use borrow.Author.Tests.{not-true, not-false}
 use Rattle.deck_card.specs.Card.{columns, places, long}
 use Rattle.deck_card.proofs.Parts.{whole_is}
-use Rattle.deck_layout.proofs.Headings.{heading-fits, heading-bytes}
+use Rattle.deck_layout.proofs.Headings.{heading_fits, heading_bytes}
 use Rattle.deck_faults.specs.Fault.{header}
-use Rattle.deck_faults.proofs.Forms.{headed-is, header-formed, header_is, form-none}
+use Rattle.deck_faults.proofs.Forms.{headed_is, header_formed, header_is, form_none}
 use Rattle.deck_faults.proofs.header.refusal.Statement.{statement}
 use Rattle.deck_faults.proofs.header.refusal.Tie as tie
 
@@ -15,7 +15,7 @@ refusal-requires : tie.Need-refusal-requires
 refusal-requires c κs = search rules
 
 returns : tie.Need-returns
-returns c = rw c.before.refusal.ensures (header-formed _ (rw (← c.before.refusal.ensures) c.if1.true))
+returns c = rw c.before.refusal.ensures (header_formed _ (rw (← c.before.refusal.ensures) c.if1.true))
 
 width-requires : tie.Need-width-requires
 width-requires c κs = search rules
@@ -35,7 +35,7 @@ returns-2 c =
     let e = sym at-form.refusal.ensures ∙ at-if1.if1.false in
     simp (
       header_is _ e,
-      headed-is,
+      headed_is,
       ← at_width.width.ensures,
       ← at-height.height.ensures,
       ← c.before.within.ensures,
@@ -56,11 +56,11 @@ agrees-requires c κs =
     let at-if1 = at_width.before in
     let at-form = at-if1.before in
     let s = at-form.before.before in
-    let f = form-none 1 s.args.card.now (sym at-form.refusal.ensures ∙ at-if1.if1.false) in
-    let n = (whole_is s.args.card.now f.whole_is).length-is in
+    let f = form_none 1 s.args.card.now (sym at-form.refusal.ensures ∙ at-if1.if1.false) in
+    let n = (whole_is s.args.card.now f.whole_is).length_is in
     let e = c.before.heading.ensures in
-    let b = heading-fits at_width.width.result at-height.height.result in
-    (rw e (b, heading-bytes at_width.width.result at-height.height.result), omega arith)
+    let b = heading_fits at_width.width.result at-height.height.result in
+    (rw e (b, heading_bytes at_width.width.result at-height.height.result), omega arith)
 
 -- what is left to judge: the layout
 decided : (c : tie.After-agrees)
@@ -77,7 +77,7 @@ decided c =
     let e = sym at-if1.before.refusal.ensures ∙ at-if1.if1.false in
     simp (
       header_is _ e,
-      headed-is,
+      headed_is,
       ← at_width.width.ensures,
       ← at-height.height.ensures,
       ← at-within.within.ensures,

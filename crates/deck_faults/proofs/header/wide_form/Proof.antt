@@ -1,5 +1,5 @@
 use borrow.Author.Rules.{rules}
-use Rattle.deck_faults.specs.Fault.{wideForm}
+use Rattle.deck_faults.specs.Fault.{wide_form}
 use Rattle.deck_faults.proofs.header.wide_form.Statement.{statement}
 use Rattle.deck_faults.proofs.header.wide_form.Tie as tie
 
@@ -7,7 +7,7 @@ at-requires : tie.Need-at-requires
 at-requires c κs = search rules
 
 returns : tie.Need-returns
-unfolding wideForm
+unfolding wide_form
 returns c = rw c.at.ensures
 
 pub wide-form-spec : {M : Type 1} → statement M

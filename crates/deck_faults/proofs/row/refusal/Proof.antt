@@ -5,11 +5,11 @@ use borrow.Author.Rules.{rules}
 use borrow.Author.Tests.{not-true, not-false}
 use lib.Seq.{slice}
 use Rattle.laws.specs.Every.{every}
-use Rattle.deck_card.specs.Card.{columns, places, long, blank, lowest, highest, visible, fromTo}
-use Rattle.deck_card.proofs.Parts.{measured-is, part_held, whole_is}
+use Rattle.deck_card.specs.Card.{columns, places, long, blank, lowest, highest, visible, from_to}
+use Rattle.deck_card.proofs.Parts.{measured_is, part_held, whole_is}
 use Rattle.deck_card.proofs.Table.{part_slice}
 use Rattle.deck_faults.specs.Fault.{row}
-use Rattle.deck_faults.proofs.Forms.{row-formed, row_is, form-none}
+use Rattle.deck_faults.proofs.Forms.{row_formed, row_is, form_none}
 use Rattle.deck_faults.proofs.row.refusal.Statement.{statement}
 use Rattle.deck_faults.proofs.row.refusal.Tie as tie
 
@@ -17,7 +17,7 @@ refusal-requires : tie.Need-refusal-requires
 refusal-requires c κs = search rules
 
 returns : tie.Need-returns
-returns c = rw c.before.refusal.ensures (row-formed _ _ _ (rw (← c.before.refusal.ensures) c.if1.true))
+returns c = rw c.before.refusal.ensures (row_formed _ _ _ (rw (← c.before.refusal.ensures) c.if1.true))
 
 part-requires : tie.Need-part-requires
 part-requires c κs = search rules
@@ -29,7 +29,7 @@ all-between-requires c κs = search rules
 cells-decide : (c : tie.After-all-between)
     → let s = c.before.before.before.before.before.args in
     row s.cells s.number s.card.now
-    ≡ cond c.all-between.result (cond (every (fromTo blank blank) (slice s.cells columns s.card.now)) 0 24) 23
+    ≡ cond c.all-between.result (cond (every (from_to blank blank) (slice s.cells columns s.card.now)) 0 24) 23
 unfolding lowest highest visible
 cells-decide c =
     let at-if1 = c.before.before in
@@ -37,7 +37,7 @@ cells-decide c =
     let start = at-form.before.before in
     let s = start.args in
     let e = sym at-form.refusal.ensures ∙ at-if1.if1.false in
-    let w = (form-none s.number s.card.now e).whole_is in
+    let w = (form_none s.number s.card.now e).whole_is in
     let p = c.before.part.ensures.0 ∙ part_held s.cells s.card.now start.requires w in
     simp (row_is s.cells s.number s.card.now e, ← p, ← c.all-between.ensures)
 
@@ -48,13 +48,13 @@ sub-all-between : tie.Need-overflow-sub-all-between
 unfolding columns
 sub-all-between c =
     let start = c.before.before.before.before.before.before in
-    (measured-is start.args.cells start.requires).most
+    (measured_is start.args.cells start.requires).most
 
 part-all-between-start : tie.Need-slice-bounds-all-between-start
 unfolding columns
 part-all-between-start c =
     let start = c.before.before.before.before.before.before in
-    (measured-is start.args.cells start.requires).most
+    (measured_is start.args.cells start.requires).most
 
 part-all-between-end : tie.Need-slice-bounds-all-between-end
 unfolding columns places long
@@ -63,8 +63,8 @@ part-all-between-end c =
     let at-form = at-if1.before in
     let start = at-form.before.before in
     let s = start.args in
-    let f = form-none s.number s.card.now (sym at-form.refusal.ensures ∙ at-if1.if1.false) in
-    let n = (whole_is s.card.now f.whole_is).length-is in
+    let f = form_none s.number s.card.now (sym at-form.refusal.ensures ∙ at-if1.if1.false) in
+    let n = (whole_is s.card.now f.whole_is).length_is in
     omega arith
 
 all-between-requires-2 : tie.Need-all-between-requires-2

@@ -5,7 +5,7 @@ use native.Mathlib.Nat.{le_refl}
 use native.Mathlib.Omega.{arith}
 use lib.ListN.{length, take, replicate, length-set}
 use Rattle.deck_card.proofs.Table.{fill_more, fill_end}
-use Rattle.deck_reading.proofs.Cleared.{length-cleared, cleared-front, cleared-back}
+use Rattle.deck_reading.proofs.Cleared.{length_cleared, cleared_front, cleared_back}
 use Rattle.deck_reading.proofs.fill.clear.Statement.{statement}
 use Rattle.deck_reading.proofs.fill.clear.Tie as tie
 
@@ -18,7 +18,7 @@ abbrev decreases-loop : tie.decreases-loop
 decreases-loop cells₀ from i₀ cells i = length cells₀ - i
 
 loop-holds : tie.Need-loop-init invariant-loop decreases-loop
-loop-holds c = (le_refl c.args.from, (refl, cleared-front c.args.from c.args.cells.now c.requires))
+loop-holds c = (le_refl c.args.from, (refl, cleared_front c.args.from c.args.cells.now c.requires))
 
 mul-cells : tie.Need-overflow-mul-cells invariant-loop decreases-loop
 mul-cells c = omega arith
@@ -38,7 +38,7 @@ loop-again c =
     let l = c.before.loop in
     let a : s.args.from ≤ l.i + 1 = omega arith in
     let h : l.i < length s.args.cells.now = omega arith in
-    let n = length-cleared s.args.from s.args.cells.now s.requires in
+    let n = length_cleared s.args.from s.args.cells.now s.requires in
     let k : l.i < length
     (take s.args.from s.args.cells.now ++ replicate (length s.args.cells.now - s.args.from) 0) =
     omega arith in (
@@ -46,7 +46,7 @@ loop-again c =
       (
         length-set l.cells l.i 0 ∙ l.invariant.1.0,
         fill_more l.cells _ l.i 0 c.loop-test.true k l.invariant.1.1
-            (cleared-back s.args.from s.args.cells.now s.requires l.i l.invariant.0 h),
+            (cleared_back s.args.from s.args.cells.now s.requires l.i l.invariant.0 h),
       ),
     )
 
@@ -57,7 +57,7 @@ returns : tie.Need-returns invariant-loop decreases-loop
 returns c =
     let s = c.before.before in
     let l = c.before.loop in
-    let n = length-cleared s.args.from s.args.cells.now s.requires in
+    let n = length_cleared s.args.from s.args.cells.now s.requires in
     let h : length
     (take s.args.from s.args.cells.now ++ replicate (length s.args.cells.now - s.args.from)
     0) ≤ l.i =

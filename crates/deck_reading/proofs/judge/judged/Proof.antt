@@ -4,7 +4,7 @@ use borrow.Author.Rules.{rules}
 use Rattle.deck_card.specs.Card.{columns, places, long}
 use Rattle.deck_card.proofs.Table.{rest_all}
 use Rattle.deck_faults.specs.Fault.{header}
-use Rattle.deck_faults.proofs.Forms.{header-within}
+use Rattle.deck_faults.proofs.Forms.{header_within}
 use Rattle.deck_reading.proofs.Answers.{judged-stop, judged-go, header-whole}
 use Rattle.deck_reading.proofs.judge.judged.Statement.{statement}
 use Rattle.deck_reading.proofs.judge.judged.Tie as tie
@@ -54,7 +54,7 @@ rows-requires c κs =
     let start = at_next.before.before in
     let e = sym (refusal at-refusal) ∙ at-if1.if1.false in
     rw (c.before.width.ensures, c.height.ensures, at_next.next.ensures)
-    (header-within (take long start.args.deck.now) e)
+    (header_within (take long start.args.deck.now) e)
 
 returns-2 : tie.Need-returns-2
 unfolding columns places long

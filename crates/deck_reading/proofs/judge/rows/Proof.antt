@@ -4,8 +4,8 @@ use native.Mathlib.Nat.{le_refl}
 use native.Mathlib.Omega.{arith}
 use lib.ListN.{length, take}
 use Rattle.deck_card.specs.Card.{columns, places, long}
-use Rattle.deck_layout.specs.Layout.{rowCards, held}
-use Rattle.deck_layout.proofs.Sizes.{held-measured, cards-few}
+use Rattle.deck_layout.specs.Layout.{row_cards, held}
+use Rattle.deck_layout.proofs.Sizes.{held_measured, cards_few}
 use Rattle.deck_card.proofs.Table.{rest_all}
 use Rattle.deck_faults.specs.Fault.{row}
 use Rattle.deck_reading.specs.Judging.{rows}
@@ -15,8 +15,8 @@ use Rattle.deck_reading.proofs.judge.rows.Tie as tie
 
 abbrev invariant-loop : tie.invariant-loop
 invariant-loop deck width height rest₀ left₀ number₀ rest left number =
-    (number + left ≡ rowCards width height + 2)
-    × (rows width height left number rest ≡ rows width height (rowCards width height) 2 deck)
+    (number + left ≡ row_cards width height + 2)
+    × (rows width height left number rest ≡ rows width height (row_cards width height) 2 deck)
 
 abbrev decreases-loop : tie.decreases-loop
 decreases-loop deck width height rest₀ left₀ number₀ rest left number = left
@@ -38,7 +38,7 @@ refusal-requires c κs =
     let at-loop = c.before.before.before in
     let start = at-loop.before.before.before in
     rw c.held.ensures
-    (held-measured start.args.width start.args.height start.requires at-loop.loop.number)
+    (held_measured start.args.width start.args.height start.requires at-loop.loop.number)
 
 -- the refusal of the next card
 refusal : (c : tie.After-refusal invariant-loop decreases-loop)
@@ -88,7 +88,7 @@ sub-left c = omega arith
 add-number : tie.Need-overflow-add-number invariant-loop decreases-loop
 add-number c =
     let s = c.before.before.before.before.before.before.before.before.before in
-    omega (arith, cards-few s.args.width s.args.height s.requires)
+    omega (arith, cards_few s.args.width s.args.height s.requires)
 
 loop-less : tie.Need-loop-smaller invariant-loop decreases-loop
 loop-less c = omega arith

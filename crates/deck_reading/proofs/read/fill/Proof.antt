@@ -4,29 +4,29 @@ use native.Mathlib.Nat.{le_refl}
 use native.Mathlib.Omega.{arith}
 use lib.ListN.{length, take, drop}
 use Rattle.deck_card.specs.Card.{columns, places, long, part}
-use Rattle.deck_layout.specs.Layout.{rowCards, held}
-use Rattle.deck_layout.proofs.Sizes.{cards-few}
+use Rattle.deck_layout.specs.Layout.{row_cards, held}
+use Rattle.deck_layout.proofs.Sizes.{cards_few}
 use Rattle.deck_card.proofs.Table.{rest_all}
 use Rattle.deck_reading.specs.Reading.{cells}
 use Rattle.deck_reading.proofs.Answers.{Deck, judged-sheet, header-whole}
-use Rattle.deck_reading.proofs.Filling.{Filling, filling-none, filling-room, filling-whole}
-use Rattle.deck_reading.proofs.Filling.{filling-turn, filling-within, filling-end}
+use Rattle.deck_reading.proofs.Filling.{Filling, filling_none, filling_room, filling_whole}
+use Rattle.deck_reading.proofs.Filling.{filling_turn, filling_within, filling_end}
 use Rattle.deck_reading.proofs.read.fill.Statement.{statement}
 use Rattle.deck_reading.proofs.read.fill.Tie as tie
 
 abbrev invariant-loop : tie.invariant-loop
 invariant-loop deck width height table₀ rest₀ left₀ number₀ from₀ table rest left number from =
-    Filling width height (cells width (rowCards width height) 2 (drop long deck)) table rest left number from
+    Filling width height (cells width (row_cards width height) 2 (drop long deck)) table rest left number from
 
 abbrev decreases-loop : tie.decreases-loop
 decreases-loop deck width height table₀ rest₀ left₀ number₀ from₀ table rest left number from = left
 
 -- what is asked of the deck: it reads as a sheet of this size
-deck-is : (s : tie.Start invariant-loop decreases-loop) → Deck s.args.width s.args.height s.args.deck.now
-deck-is s = judged-sheet s.args.width s.args.height s.args.deck.now s.requires.0
+deck_is : (s : tie.Start invariant-loop decreases-loop) → Deck s.args.width s.args.height s.args.deck.now
+deck_is s = judged-sheet s.args.width s.args.height s.args.deck.now s.requires.0
 
 header-there : (s : tie.Start invariant-loop decreases-loop) → long ≤ length s.args.deck.now
-header-there s = header-whole s.args.deck.now (deck-is s).head
+header-there s = header-whole s.args.deck.now (deck_is s).head
 
 sub-rest : tie.Need-overflow-sub-rest invariant-loop decreases-loop
 unfolding columns places long
@@ -40,15 +40,15 @@ part-rest-end : tie.Need-slice-bounds-rest-end invariant-loop decreases-loop
 part-rest-end c = le_refl _
 
 row-cards-requires : tie.Need-row-cards-requires invariant-loop decreases-loop
-row-cards-requires c κs = (deck-is c.before.before.before).size
+row-cards-requires c κs = (deck_is c.before.before.before).size
 
 loop-holds : tie.Need-loop-init invariant-loop decreases-loop
 unfolding columns places long
 loop-holds c =
     let s = c.before.before.before.before in
     rw (rest_all long s.args.deck.now, c.row-cards.ensures)
-    (filling-none s.args.width s.args.height (drop long s.args.deck.now) s.args.table.now
-    (deck-is s).body s.requires.1)
+    (filling_none s.args.width s.args.height (drop long s.args.deck.now) s.args.table.now
+    (deck_is s).body s.requires.1)
 
 held-requires : tie.Need-held-requires invariant-loop decreases-loop
 held-requires c κs = tt
@@ -76,7 +76,7 @@ copy-requires c κs =
     let start = at-loop.before.before.before.before.before in
     let l = at-loop.loop in
     rw (row_is c.before)
-    (filling-room start.args.width start.args.height (deck-is start).size _ l.table l.rest.now
+    (filling_room start.args.width start.args.height (deck_is start).size _ l.table l.rest.now
     l.number l.from l.left at-loop-test.loop-test.true l.invariant)
 
 -- the next card is there as a whole
@@ -84,7 +84,7 @@ card-there : (c : tie.In-loop invariant-loop decreases-loop) → long ≤ length
 card-there c =
     let start = c.before.before.before.before.before.before in
     let l = c.before.loop in
-    filling-whole start.args.width start.args.height (deck-is start).size _ l.table l.rest.now
+    filling_whole start.args.width start.args.height (deck_is start).size _ l.table l.rest.now
     l.number l.from l.left c.loop-test.true l.invariant
 
 sub-rest-2 : tie.Need-overflow-sub-rest-2 invariant-loop decreases-loop
@@ -108,7 +108,7 @@ add-number c =
     let s = at-loop.before.before.before.before.before in
     omega (
       arith,
-      cards-few s.args.width s.args.height (deck-is s).size,
+      cards_few s.args.width s.args.height (deck_is s).size,
       at-loop.loop.invariant.count,
       at-loop-test.loop-test.true,
     )
@@ -125,7 +125,7 @@ loop-again c =
     let at-loop = at-loop-test.before in
     let s = at-loop.before.before.before.before.before in
     let l = at-loop.loop in
-    filling-turn s.args.width s.args.height (deck-is s).size _ l.table l.rest.now l.number
+    filling_turn s.args.width s.args.height (deck_is s).size _ l.table l.rest.now l.number
     l.from l.left at_part.part.result.now _ _ _
     at-loop-test.loop-test.true l.invariant (row_is at_part) at_copy.copy.ensures.1
     (rest_all long l.rest.now) at_copy.copy.ensures.0
@@ -135,7 +135,7 @@ clear-requires c κs =
     let at-loop = c.before.before in
     let s = at-loop.before.before.before.before.before in
     let l = at-loop.loop in
-    filling-within s.args.width s.args.height (deck-is s).size _ l.table l.rest.now l.number
+    filling_within s.args.width s.args.height (deck_is s).size _ l.table l.rest.now l.number
     l.from l.left l.invariant
 
 same_length : tie.Need-same-length invariant-loop decreases-loop
@@ -143,7 +143,7 @@ same_length c =
     let at_clear = c.before.before in
     let at-loop = at_clear.before.before.before in
     let start = at-loop.before.before.before.before.before in
-    at_clear.clear.auto.0 ∙ at-loop.loop.invariant.length-is ∙ sym start.requires.1
+    at_clear.clear.auto.0 ∙ at-loop.loop.invariant.length_is ∙ sym start.requires.1
 
 returns : tie.Need-returns invariant-loop decreases-loop
 returns c =
@@ -153,7 +153,7 @@ returns c =
     let s = at-loop.before.before.before.before.before in
     let l = at-loop.loop in
     at_clear.clear.ensures
-    ∙ filling-end s.args.width s.args.height (deck-is s).size _ l.table l.rest.now l.number
+    ∙ filling_end s.args.width s.args.height (deck_is s).size _ l.table l.rest.now l.number
     l.from l.left at-loop-test.loop-test.false l.invariant
 
 pub fill_spec : {M : Type 1} → statement M

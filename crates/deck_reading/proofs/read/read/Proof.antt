@@ -1,7 +1,7 @@
 use mathlib.Core.Path.{sym, ◌∙◌}
 use borrow.Author.Rules.{rules}
 use Rattle.deck_reading.specs.Reading.{room}
-use Rattle.deck_reading.proofs.Outcomes.{reading-table, reading-refused, reading-sheet}
+use Rattle.deck_reading.proofs.Outcomes.{reading_table, reading_refused, reading_sheet}
 use Rattle.deck_reading.proofs.read.read.Statement.{statement}
 use Rattle.deck_reading.proofs.read.read.Tie as tie
 
@@ -9,7 +9,7 @@ returns : tie.Need-returns
 unfolding room
 returns c =
     let start = c.before.before.before in
-    reading-table start.args.deck.now start.args.cells.now c.if1.true
+    reading_table start.args.deck.now start.args.cells.now c.if1.true
 
 judged-requires : tie.Need-judged-requires
 judged-requires c κs = search rules
@@ -28,7 +28,7 @@ returns-2 c =
     let start = at-if1.before.before.before in
     let s = start.args in
     let e = at-judged.judged.ensures in
-    rw e (reading-refused s.deck.now s.cells.now _ _ at-if1.if1.false (sym e ∙ c.enum_told.given.1))
+    rw e (reading_refused s.deck.now s.cells.now _ _ at-if1.if1.false (sym e ∙ c.enum_told.given.1))
 
 fill-requires : tie.Need-fill-requires
 unfolding room
@@ -51,7 +51,7 @@ returns-3 c =
     let start = at-if1.before.before.before in
     let s = start.args in
     rw at_fill_lem.fill.ensures
-    (reading-sheet s.deck.now s.cells.now _ _ at-if1.if1.false
+    (reading_sheet s.deck.now s.cells.now _ _ at-if1.if1.false
     (sym at-judged.judged.ensures ∙ at-answer.answer.given.1))
 
 pub read_spec : {M : Type 1} → statement M

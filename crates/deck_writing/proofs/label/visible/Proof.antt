@@ -4,8 +4,8 @@ use native.Mathlib.Omega.{arith}
 use lib.ListN.{length, drop}
 use Rattle.laws.specs.Every.{every}
 use Rattle.deck_card.specs.Card.{lowest, highest, visible}
-use Rattle.laws.proofs.Every.{every-stop, every-go, every-end}
-use Rattle.deck_card.proofs.Every.{from-to-below, from-to-above, from-to-inside}
+use Rattle.laws.proofs.Every.{every_stop, every_go, every_end}
+use Rattle.deck_card.proofs.Every.{from_to_below, from_to_above, from_to_inside}
 use Rattle.deck_writing.proofs.label.visible.Statement.{statement}
 use Rattle.deck_writing.proofs.label.visible.Tie as tie
 
@@ -29,7 +29,7 @@ unfolding lowest highest visible
 returns c =
     let at-loop-test = c.before.before in
     let at-loop = at-loop-test.before in
-    sym (every-stop _ _ _ at-loop-test.loop-test.true (from-to-below _ _ _ c.if1.true)) ∙ at-loop.loop.invariant
+    sym (every_stop _ _ _ at-loop-test.loop-test.true (from_to_below _ _ _ c.if1.true)) ∙ at-loop.loop.invariant
 
 mul-if2 : tie.Need-overflow-mul-if2 invariant-loop decreases-loop
 mul-if2 c = omega arith
@@ -42,7 +42,7 @@ unfolding lowest highest visible
 returns-2 c =
     let at-loop-test = c.before.before.before.before in
     let at-loop = at-loop-test.before in
-    sym (every-stop _ _ _ at-loop-test.loop-test.true (from-to-above _ _ _ c.if2.true)) ∙ at-loop.loop.invariant
+    sym (every_stop _ _ _ at-loop-test.loop-test.true (from_to_above _ _ _ c.if2.true)) ∙ at-loop.loop.invariant
 
 add-i : tie.Need-overflow-add-i invariant-loop decreases-loop
 add-i c = omega arith
@@ -56,11 +56,11 @@ loop-again c =
     let at-if1 = c.before.before in
     let at-loop-test = at-if1.before.before in
     let at-loop = at-loop-test.before in
-    every-go _ _ _ at-loop-test.loop-test.true (from-to-inside _ _ _ at-if1.if1.false c.if2.false)
+    every_go _ _ _ at-loop-test.loop-test.true (from_to_inside _ _ _ at-if1.if1.false c.if2.false)
     ∙ at-loop.loop.invariant
 
 returns-3 : tie.Need-returns-3 invariant-loop decreases-loop
-returns-3 c = sym (every-end _ _ _ c.loop-test.false) ∙ c.before.loop.invariant
+returns-3 c = sym (every_end _ _ _ c.loop-test.false) ∙ c.before.loop.invariant
 
 pub visible-spec : {M : Type 1} → statement M
 visible-spec =

@@ -2,7 +2,7 @@ use mathlib.Core.Path.{sym}
 use lib.Seq.{length-take-le}
 use borrow.Author.Rules.{rules}
 use Rattle.deck_card.specs.Card.{columns, places, long}
-use Rattle.deck_layout.proofs.Headings.{heading-fits, heading-bytes}
+use Rattle.deck_layout.proofs.Headings.{heading_fits, heading_bytes}
 use Rattle.deck_writing.proofs.write.put_header.Statement.{statement}
 use Rattle.deck_writing.proofs.write.put_header.Tie as tie
 
@@ -28,7 +28,7 @@ put-requires c κs =
     let at-heading = c.before.before in
     let s = at-heading.before.before in (
       rw at-heading.heading.ensures
-          (heading-fits s.args.width s.args.height, heading-bytes s.args.width s.args.height),
+          (heading_fits s.args.width s.args.height, heading_bytes s.args.width s.args.height),
       length-take-le long s.args.deck.now s.requires,
     )
 

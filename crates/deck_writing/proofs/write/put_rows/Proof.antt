@@ -7,18 +7,18 @@ use lib.ListN.{length, take, drop}
 use lib.Seq.{length-take-le}
 use borrow.Author.Rules.{rules}
 use Rattle.deck_card.specs.Card.{columns, places, long, card}
-use Rattle.deck_layout.specs.Layout.{rowCards, held}
-use Rattle.deck_layout.proofs.Sizes.{cards-few}
+use Rattle.deck_layout.specs.Layout.{row_cards, held}
+use Rattle.deck_layout.proofs.Sizes.{cards_few}
 use Rattle.deck_card.proofs.Table.{rest_all}
-use Rattle.deck_writing.specs.Writing.{rowDeck}
-use Rattle.deck_writing.proofs.Punching.{Punching, punching-none, punching-cells, punching-room, punching-content}
-use Rattle.deck_writing.proofs.Punching.{punching-turn, punching-end, middle, length-middle}
+use Rattle.deck_writing.specs.Writing.{row_deck}
+use Rattle.deck_writing.proofs.Punching.{Punching, punching_none, punching_cells, punching_room, punching_content}
+use Rattle.deck_writing.proofs.Punching.{punching_turn, punching_end, middle, length_middle}
 use Rattle.deck_writing.proofs.write.put_rows.Statement.{statement}
 use Rattle.deck_writing.proofs.write.put_rows.Tie as tie
 
 abbrev invariant-loop : tie.invariant-loop
 invariant-loop width height sheet deck₀ rest₀ left₀ number₀ at₀ deck rest left number at =
-    Punching width height (take long deck₀ ++ rowDeck width (rowCards width height) 2 sheet) deck rest left number at
+    Punching width height (take long deck₀ ++ row_deck width (row_cards width height) 2 sheet) deck rest left number at
 
 abbrev decreases-loop : tie.decreases-loop
 decreases-loop width height sheet deck₀ rest₀ left₀ number₀ at₀ deck rest left number at = left
@@ -31,7 +31,7 @@ unfolding columns places long
 loop-holds c =
     let s = c.before.before.before in
     rw c.row-cards.ensures
-    (punching-none s.args.width s.args.height s.args.sheet.now s.args.deck.now s.requires.1.0
+    (punching_none s.args.width s.args.height s.args.sheet.now s.args.deck.now s.requires.1.0
     s.requires.1.1.0 s.requires.1.1.1)
 
 held-requires : tie.Need-held-requires invariant-loop decreases-loop
@@ -49,7 +49,7 @@ bytes-there : (c : tie.In-loop invariant-loop decreases-loop) → c.before.loop.
 bytes-there c =
     let s = c.before.before.before.before.before in
     let l = c.before.loop in
-    punching-room s.args.width s.args.height s.requires.0 _ l.deck l.rest.now l.number l.at
+    punching_room s.args.width s.args.height s.requires.0 _ l.deck l.rest.now l.number l.at
     l.left c.loop-test.true l.invariant
 
 -- and its cells
@@ -59,7 +59,7 @@ cells-there c =
     let s = at-loop.before.before.before.before in
     let l = at-loop.loop in
     rw c.held.ensures
-    (punching-cells s.args.width s.args.height s.requires.0 _ l.deck l.rest.now l.number l.at
+    (punching_cells s.args.width s.args.height s.requires.0 _ l.deck l.rest.now l.number l.at
     l.left c.before.loop-test.true l.invariant)
 
 cast-held : tie.Need-overflow-cast-held invariant-loop decreases-loop
@@ -95,9 +95,9 @@ put-requires c κs =
     let l = at-loop.loop in
     let h : l.at + long ≤ length l.deck = bytes-there at-loop-test in (
       rw at_held.held.ensures
-          (punching-content s.args.width s.args.height s.requires.0 _ l.deck l.rest.now l.number l.at
+          (punching_content s.args.width s.args.height s.requires.0 _ l.deck l.rest.now l.number l.at
           l.left at-loop-test.loop-test.true l.invariant),
-      length-middle l.at l.deck h,
+      length_middle l.at l.deck h,
     )
 
 mul-rest : tie.Need-overflow-mul-rest invariant-loop decreases-loop
@@ -122,7 +122,7 @@ add-number c =
     let s = at-loop.before.before.before.before in
     omega (
       arith,
-      cards-few s.args.width s.args.height s.requires.0,
+      cards_few s.args.width s.args.height s.requires.0,
       at-loop.loop.invariant.count,
       at-loop-test.loop-test.true,
     )
@@ -139,7 +139,7 @@ loop-again c =
     let at-loop = at-loop-test.before in
     let s = at-loop.before.before.before.before in
     let l = at-loop.loop in
-    punching-turn s.args.width s.args.height s.requires.0 _ l.deck l.rest.now l.number l.at
+    punching_turn s.args.width s.args.height s.requires.0 _ l.deck l.rest.now l.number l.at
     l.left _ _
     at-loop-test.loop-test.true l.invariant
     (rw (at-put.put.ensures, at_held.held.ensures)
@@ -153,7 +153,7 @@ returns : tie.Need-returns invariant-loop decreases-loop
 returns c =
     let s = c.before.before.before.before.before in
     let l = c.before.loop in
-    punching-end s.args.width s.args.height s.requires.0 _ l.deck l.rest.now l.number l.at
+    punching_end s.args.width s.args.height s.requires.0 _ l.deck l.rest.now l.number l.at
     l.left c.loop-test.false l.invariant
 
 pub put-rows-spec : {M : Type 1} → statement M

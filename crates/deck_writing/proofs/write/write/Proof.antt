@@ -9,9 +9,9 @@ use Rattle.sheet_size.specs.Size.{within}
 use Rattle.point_darts.proofs.Fit.{cells_fit}
 use Rattle.laws.specs.Every.{every}
 use Rattle.deck_card.specs.Card.{columns, places, long, visible}
-use Rattle.deck_writing.specs.Writing.{deckLength}
-use Rattle.deck_writing.proofs.Punching.{writing-size, writing-sheet, writing-deck, writing-label}
-use Rattle.deck_writing.proofs.Punching.{writing-done, deck-some, deck-whole}
+use Rattle.deck_writing.specs.Writing.{deck_length}
+use Rattle.deck_writing.proofs.Punching.{writing_size, writing_sheet, writing_deck, writing_label}
+use Rattle.deck_writing.proofs.Punching.{writing_done, deck_some, deck_whole}
 use Rattle.deck_writing.proofs.write.write.Statement.{statement}
 use Rattle.deck_writing.proofs.write.write.Tie as tie
 
@@ -22,7 +22,7 @@ returns : tie.Need-returns
 returns c =
     let start = c.before.before.before.before in
     let s = start.args in
-    writing-size s.width s.height s.sheet.now s.deck.now
+    writing_size s.width s.height s.sheet.now s.deck.now
     (sym c.before.within.ensures ∙ not-true c.before.within.result c.if1.true)
 
 -- the size is one
@@ -43,7 +43,7 @@ cast-if2 c =
 returns-2 : tie.Need-returns-2
 returns-2 c =
     let s = c.before.before.before.before.before.args in
-    writing-sheet s.width s.height s.sheet.now s.deck.now (size_is c.before) c.if2.true
+    writing_sheet s.width s.height s.sheet.now s.deck.now (size_is c.before) c.if2.true
 
 row-cards-requires : tie.Need-row-cards-requires
 row-cards-requires c κs = size_is c.before
@@ -58,22 +58,22 @@ mul-if3 : tie.Need-overflow-mul-if3
 mul-if3 c = search rules
 
 returns-3 : tie.Need-returns-3
-unfolding columns places long deckLength
+unfolding columns places long deck_length
 returns-3 c =
     let at-if2 = c.before.before in
     let at-if1 = at-if2.before in
     let start = at-if1.before.before.before.before in
     let s = start.args in
-    writing-deck s.width s.height s.sheet.now s.deck.now (size_is at-if1) at-if2.if2.false
+    writing_deck s.width s.height s.sheet.now s.deck.now (size_is at-if1) at-if2.if2.false
     (rw (← c.before.row-cards.ensures) c.if3.true)
 
 -- the deck's length is the sheet's
-length-is : (c : tie.Else3) → length
-    c.before.before.before.before.before.before.before.args.deck.now ≡ deckLength
+length_is : (c : tie.Else3) → length
+    c.before.before.before.before.before.before.before.args.deck.now ≡ deck_length
     c.before.before.before.before.before.before.before.args.width
     c.before.before.before.before.before.before.before.args.height
-unfolding columns places long deckLength
-length-is c = rw (← c.before.row-cards.ensures) c.if3.false
+unfolding columns places long deck_length
+length_is c = rw (← c.before.row-cards.ensures) c.if3.false
 
 visible-requires : tie.Need-visible-requires
 visible-requires c κs = search rules
@@ -85,20 +85,20 @@ returns-4 c =
     let at-if1 = at-if2.before in
     let start = at-if1.before.before.before.before in
     let s = start.args in
-    writing-label s.width s.height s.sheet.now s.deck.now (size_is at-if1) at-if2.if2.false
-    (length-is at-if3)
+    writing_label s.width s.height s.sheet.now s.deck.now (size_is at-if1) at-if2.if2.false
+    (length_is at-if3)
     (sym c.before.visible.ensures ∙ not-true c.before.visible.result c.if4.true)
 
 -- the labels may stand on cards
-labels-are : (c : tie.Else4) → every visible
+labels_are : (c : tie.Else4) → every visible
     c.before.before.before.before.before.before.before.before.before.args.sheet.now ≡ true
-labels-are c = sym c.before.visible.ensures ∙ not-false c.before.visible.result c.if4.false
+labels_are c = sym c.before.visible.ensures ∙ not-false c.before.visible.result c.if4.false
 
 put-header-requires : tie.Need-put-header-requires
 put-header-requires c κs =
     let at-if3 = c.before.before.before in
     let start = at-if3.before.before.before.before.before.before.before in
-    rw (length-is at-if3) (deck-some start.args.width start.args.height)
+    rw (length_is at-if3) (deck_some start.args.width start.args.height)
 
 put-rows-requires : tie.Need-put-rows-requires
 put-rows-requires c κs =
@@ -108,7 +108,7 @@ put-rows-requires c κs =
     let at-if2 = at-if3.before.before in
     let at-if1 = at-if2.before in (
       size_is at-if1,
-      (at-if2.if2.false, (at-put-header.put-header.auto.1.1.0 ∙ length-is at-if3, labels-are at-if4)),
+      (at-if2.if2.false, (at-put-header.put-header.auto.1.1.0 ∙ length_is at-if3, labels_are at-if4)),
     )
 
 same_length : tie.Need-same-length
@@ -124,9 +124,9 @@ returns-5 c =
     let at-if1 = at-if2.before in
     let start = at-if1.before.before.before.before in
     let s = start.args in
-    rw (at-put-rows.put-rows.ensures, at-put-header.put-header.ensures, deck-whole)
-    (writing-done s.width s.height s.sheet.now s.deck.now (size_is at-if1) at-if2.if2.false
-    (length-is at-if3) (labels-are at-if4))
+    rw (at-put-rows.put-rows.ensures, at-put-header.put-header.ensures, deck_whole)
+    (writing_done s.width s.height s.sheet.now s.deck.now (size_is at-if1) at-if2.if2.false
+    (length_is at-if3) (labels_are at-if4))
 
 pub write_spec : {M : Type 1} → statement M
 write_spec =

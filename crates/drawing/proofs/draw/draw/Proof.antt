@@ -1,7 +1,7 @@
 use mathlib.Core.Path.{refl, sym, ◌∙◌}
 use borrow.Author.Rules.{rules}
-use Rattle.table_entries.proofs.Cleared.{cleared-same}
-use Rattle.drawing.proofs.Refusing.{all_fit, stated-still, refused, done}
+use Rattle.table_entries.proofs.Cleared.{cleared_same}
+use Rattle.drawing.proofs.Refusing.{all_fit, stated_still, refused, done}
 use Rattle.drawing.proofs.draw.draw.Statement.{statement}
 use Rattle.drawing.proofs.draw.draw.Tie as tie
 
@@ -47,7 +47,7 @@ draw-names-requires c κs =
     let k = answered n in
     let f = all_fit _ _ _ _ _ _ k.before.refusal.ensures (sym k.number.ensures ∙ n.before.before.before.if1.false) in (
       f.size,
-      stated-still _ _ _ _ _ _ _ _ f.lent n.name-cells.auto.1.1.1.0 n.name-cells.auto.1.1.1.1.0,
+      stated_still _ _ _ _ _ _ _ _ f.lent n.name-cells.auto.1.1.1.0 n.name-cells.auto.1.1.1.1.0,
       record { labels = _; round = n.name-cells.ensures },
     )
 
@@ -92,7 +92,7 @@ returns-2 c =
     done _ _ _ _ _ _ k.before.refusal.ensures (sym k.number.ensures ∙ n.before.before.before.if1.left) _ _
     (d.draw-names.ensures.0 (record { labels = _; round = n.name-cells.ensures }))
     (d.draw-names.ensures.1
-    ∙ cleared-same _ _ _ _ _ _ _ _ n.name-cells.kept.1.1.1.0 n.name-cells.kept.1.1.1.1.0 refl refl)
+    ∙ cleared_same _ _ _ _ _ _ _ _ n.name-cells.kept.1.1.1.0 n.name-cells.kept.1.1.1.1.0 refl refl)
 
 pub draw-spec : {M : Type 1} → statement M
 draw-spec =

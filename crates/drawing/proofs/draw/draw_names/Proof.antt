@@ -1,8 +1,8 @@
 use mathlib.Core.Path.{refl, ◌∙◌}
-use Rattle.table_lengths.proofs.Tested.{stated-names, stated-slots}
-use Rattle.table_entries.proofs.Cleared.{cleared-same}
-use Rattle.region_totals.proofs.Paper.{framed-below}
-use Rattle.drawing.proofs.Whole.{drawing-runs, drawing-whole, tops-rising}
+use Rattle.table_lengths.proofs.Tested.{stated_names, stated_slots}
+use Rattle.table_entries.proofs.Cleared.{cleared_same}
+use Rattle.region_totals.proofs.Paper.{framed_below}
+use Rattle.drawing.proofs.Whole.{drawing_runs, drawing_whole, tops_rising}
 use Rattle.drawing.proofs.draw.draw_names.Statement.{statement}
 use Rattle.drawing.proofs.draw.draw_names.Tie as tie
 
@@ -31,23 +31,23 @@ cleared c = c.before.before.before.before.before.before.before.before
 draw-lines-requires : tie.Need-draw-lines-requires
 draw-lines-requires c κs =
     let p = (started c).requires in
-    let d = stated-slots _ _ _ _ p.1 in
+    let d = stated_slots _ _ _ _ p.1 in
     let w = d.1.1.1.1 in
     (p.0, w.1.0, w.0, d.0, d.1.0)
 
 draw-totals-requires : tie.Need-draw-totals-requires
 draw-totals-requires c κs =
     let p = (started c.before.before.before.before.before.before.before.before.before.before.before).requires in
-    let n = stated-names _ _ _ _ p.1 in
-    let w = (stated-slots _ _ _ _ p.1).1.1.1.1 in
-    (p.0, w.1.0, rw p.2.round (framed-below _ _ _), n.1.0, n.1.1.0, w.1.1.0)
+    let n = stated_names _ _ _ _ p.1 in
+    let w = (stated_slots _ _ _ _ p.1).1.1.1.1 in
+    (p.0, w.1.0, rw p.2.round (framed_below _ _ _), n.1.0, n.1.1.0, w.1.1.0)
 
 keep-points-requires : tie.Need-keep-points-requires
 keep-points-requires c κs =
     let t = c.before.before.before.before.before.before.before.before.before.before in
     let l = lined t in
     let p = (started l.before).requires in
-    let d = stated-slots _ _ _ _ p.1 in
+    let d = stated_slots _ _ _ _ p.1 in
     let w = d.1.1.1.1 in (
       p.0,
       l.draw-lines.kept.1.1.1.1.1.0 ∙ d.1.0,
@@ -62,13 +62,13 @@ draw-curves-requires c κs =
     let t = totalled k in
     let l = lined t in
     let p = (started l.before).requires in
-    let d = stated-slots _ _ _ _ p.1 in (
+    let d = stated_slots _ _ _ _ p.1 in (
       p.0,
       k.keep-points.auto.1.1.1.1.1.0 ∙ t.draw-totals.kept.1.1.1.1.1.0 ∙ d.1.1.1.1.1.1.0,
       d.1.1.0,
       d.1.1.1.0,
       l.draw-lines.kept.1.1.1.1.0 ∙ d.0,
-      drawing-runs _ _ _ p.0 _ _ _ _ _ _ p.2.round l.draw-lines.ensures k.keep-points.ensures,
+      drawing_runs _ _ _ p.0 _ _ _ _ _ _ p.2.round l.draw-lines.ensures k.keep-points.ensures,
     )
 
 draw-parents-requires : tie.Need-draw-parents-requires
@@ -76,11 +76,11 @@ draw-parents-requires c κs =
     let k = kept c.before.before.before.before.before.before.before in
     let l = lined (totalled k) in
     let p = (started l.before).requires in
-    let d = stated-slots _ _ _ _ p.1 in (
+    let d = stated_slots _ _ _ _ p.1 in (
       p.0,
       k.keep-points.kept.1.1.1.1.0 ∙ d.1.1.1.1.1.0,
-      tops-rising _ _ _ _ _ _ k.keep-points.ensures,
-      (stated-names _ _ _ _ p.1).0,
+      tops_rising _ _ _ _ _ _ k.keep-points.ensures,
+      (stated_names _ _ _ _ p.1).0,
       l.draw-lines.kept.1.1.1.1.1.0 ∙ d.1.0,
     )
 
@@ -135,10 +135,10 @@ returns c =
     let k = kept y in
     let t = totalled k in
     let l = lined t in (
-      λ f. drawing-whole _ _ _ (started l.before).requires.0 _ _ _ _ _ _ f.round l.draw-lines.ensures k.keep-points.ensures
+      λ f. drawing_whole _ _ _ (started l.before).requires.0 _ _ _ _ _ _ f.round l.draw-lines.ensures k.keep-points.ensures
           _ _ _ _ _ y.draw-curves.ensures q.draw-parents.ensures t.draw-totals.ensures,
       e.clear-four.ensures
-          ∙ cleared-same _ _ _ _ _ _ _ _ l.draw-lines.kept.1.1.1.0 k.keep-points.kept.1.1.1.1.0
+          ∙ cleared_same _ _ _ _ _ _ _ _ l.draw-lines.kept.1.1.1.0 k.keep-points.kept.1.1.1.1.0
           (k.keep-points.kept.1.1.1.1.1.0 ∙ t.draw-totals.kept.1.1.1.1.1.0) refl,
     )
 

@@ -1,7 +1,7 @@
 use mathlib.Core.Path.{sym, ◌∙◌}
 use borrow.Author.Rules.{rules}
 use Rattle.table_entries.proofs.Front.{front_long}
-use Rattle.region_names.proofs.Room.{points-part}
+use Rattle.region_names.proofs.Room.{points_part}
 use Rattle.drawing.proofs.parts.draw_curves.Statement.{statement}
 use Rattle.drawing.proofs.parts.draw_curves.Tie as tie
 
@@ -15,7 +15,7 @@ slice-aggregate-links : tie.Need-slice-aggregate-links
 slice-aggregate-links c =
     let p = c.before in
     let s = p.before.before.before.before.before in
-    sym (front_long _ _ s.args.kept.now s.requires.1 (points-part _ _ _ p.points.ensures))
+    sym (front_long _ _ s.args.kept.now s.requires.1 (points_part _ _ _ p.points.ensures))
 
 links-requires : tie.Need-links-requires
 links-requires c κs =
@@ -26,7 +26,7 @@ links-requires c κs =
       s.requires.2,
       s.requires.3,
       s.requires.4,
-      front_long _ _ s.args.kept.now s.requires.1 (points-part _ _ _ e) ∙ e,
+      front_long _ _ s.args.kept.now s.requires.1 (points_part _ _ _ e) ∙ e,
       rw e s.requires.5,
     )
 

@@ -2,11 +2,11 @@ use mathlib.Core.Path.{sym, ap, ◌∙◌}
 use Prim.Native.Nat.{◌+◌}
 use native.Mathlib.Omega.{arith}
 use borrow.Author.Rules.{rules}
-use Rattle.sheet_size.proofs.Limit.{within-limits}
-use Rattle.point_darts.proofs.Fit.{points-fit}
-use Rattle.table_entries.proofs.Front.{front-in, front_long, front-back, back_in, back_long}
-use Rattle.region_names.proofs.Room.{points-part, surround-part}
-use Rattle.drawing.proofs.Part.{lined-all}
+use Rattle.sheet_size.proofs.Limit.{within_limits}
+use Rattle.point_darts.proofs.Fit.{points_fit}
+use Rattle.table_entries.proofs.Front.{front_in, front_long, front_back, back_in, back_long}
+use Rattle.region_names.proofs.Room.{points_part, surround_part}
+use Rattle.drawing.proofs.Part.{lined_all}
 use Rattle.drawing.proofs.parts.draw_lines.Statement.{statement}
 use Rattle.drawing.proofs.parts.draw_lines.Tie as tie
 
@@ -27,31 +27,31 @@ add-around : tie.Need-overflow-add-around
 add-around c =
     let p = c in
     let s = start p in
-    omega (arith, p.points.ensures, points-fit _ _ s.pre.0, (within-limits _ _ s.pre.0).width-most)
+    omega (arith, p.points.ensures, points_fit _ _ s.pre.0, (within_limits _ _ s.pre.0).width_most)
 
 add-around-2 : tie.Need-overflow-add-around-2
 add-around-2 c =
     let p = c in
     let s = start p in
-    omega (arith, p.points.ensures, points-fit _ _ s.pre.0, (within-limits _ _ s.pre.0).width-most)
+    omega (arith, p.points.ensures, points_fit _ _ s.pre.0, (within_limits _ _ s.pre.0).width_most)
 
 slice-aggregate-masks : tie.Need-slice-aggregate-masks
 slice-aggregate-masks c =
     let p = c.before in
     let s = start p in
-    sym (front_long _ _ s.args.round.now s.pre.1 (surround-part _ _ _ p.points.ensures))
+    sym (front_long _ _ s.args.round.now s.pre.1 (surround_part _ _ _ p.points.ensures))
 
 slice-relend-prefix-masks : tie.Need-slice-relend-prefix-masks
 slice-relend-prefix-masks c =
     let p = c.before in
     let s = start p in
-    front-in _ _ s.args.lines.now s.pre.2 (points-part _ _ _ p.points.ensures)
+    front_in _ _ s.args.lines.now s.pre.2 (points_part _ _ _ p.points.ensures)
 
 slice-aggregate-masks-2 : tie.Need-slice-aggregate-masks-2
 slice-aggregate-masks-2 c =
     let p = c.before.before in
     let s = start p in
-    sym (front_long _ _ s.args.lines.now s.pre.2 (points-part _ _ _ p.points.ensures))
+    sym (front_long _ _ s.args.lines.now s.pre.2 (points_part _ _ _ p.points.ensures))
 
 masks-requires : tie.Need-masks-requires
 masks-requires c κs =
@@ -59,8 +59,8 @@ masks-requires c κs =
     let s = start p in
     let e = p.points.ensures in (
       s.pre.0,
-      front_long _ _ s.args.round.now s.pre.1 (surround-part _ _ _ e) ∙ ap (λ n. n + s.args.width + 2) e,
-      front_long _ _ s.args.lines.now s.pre.2 (points-part _ _ _ e) ∙ e,
+      front_long _ _ s.args.round.now s.pre.1 (surround_part _ _ _ e) ∙ ap (λ n. n + s.args.width + 2) e,
+      front_long _ _ s.args.lines.now s.pre.2 (points_part _ _ _ e) ∙ e,
     )
 
 slice-reshare-prefix-nexts : tie.Need-slice-reshare-prefix-nexts
@@ -68,7 +68,7 @@ slice-reshare-prefix-nexts c =
     let m = c.before.before in
     let p = ruled m in
     let s = start p in
-    back_in _ _ s.args.lines.now s.pre.2 (points-part _ _ _ p.points.ensures) m.masks.new.1.1.1.0
+    back_in _ _ s.args.lines.now s.pre.2 (points_part _ _ _ p.points.ensures) m.masks.new.1.1.1.0
     m.masks.auto.1.1.1.0
 
 slice-aggregate-nexts : tie.Need-slice-aggregate-nexts
@@ -76,7 +76,7 @@ slice-aggregate-nexts c =
     let m = c.before.before.before in
     let p = ruled m in
     let s = start p in
-    sym (back_long _ _ s.args.lines.now s.pre.2 (points-part _ _ _ p.points.ensures) m.masks.new.1.1.1.0
+    sym (back_long _ _ s.args.lines.now s.pre.2 (points_part _ _ _ p.points.ensures) m.masks.new.1.1.1.0
     m.masks.auto.1.1.1.0)
 
 nexts-requires : tie.Need-nexts-requires
@@ -84,7 +84,7 @@ nexts-requires c κs =
     let m = c.before.before.before.before in
     let p = ruled m in
     let s = start p in
-    let l = back_long _ _ s.args.lines.now s.pre.2 (points-part _ _ _ p.points.ensures) m.masks.new.1.1.1.0
+    let l = back_long _ _ s.args.lines.now s.pre.2 (points_part _ _ _ p.points.ensures) m.masks.new.1.1.1.0
     m.masks.auto.1.1.1.0 in
     (s.pre.0, l ∙ p.points.ensures, s.pre.3)
 
@@ -93,14 +93,14 @@ slice-aggregate-sides c =
     let m = c.before.before.before.before.before.before.before.before in
     let p = ruled m in
     let s = start p in
-    sym (front_long _ _ s.args.round.now s.pre.1 (surround-part _ _ _ p.points.ensures))
+    sym (front_long _ _ s.args.round.now s.pre.1 (surround_part _ _ _ p.points.ensures))
 
 slice-reshare-prefix-sides : tie.Need-slice-reshare-prefix-sides
 slice-reshare-prefix-sides c =
     let m = c.before.before.before.before.before.before.before.before in
     let p = ruled m in
     let s = start p in
-    back_in _ _ s.args.lines.now s.pre.2 (points-part _ _ _ p.points.ensures) m.masks.new.1.1.1.0
+    back_in _ _ s.args.lines.now s.pre.2 (points_part _ _ _ p.points.ensures) m.masks.new.1.1.1.0
     m.masks.auto.1.1.1.0
 
 slice-aggregate-sides-2 : tie.Need-slice-aggregate-sides-2
@@ -108,7 +108,7 @@ slice-aggregate-sides-2 c =
     let m = c.before.before.before.before.before.before.before.before.before in
     let p = ruled m in
     let s = start p in
-    sym (back_long _ _ s.args.lines.now s.pre.2 (points-part _ _ _ p.points.ensures) m.masks.new.1.1.1.0
+    sym (back_long _ _ s.args.lines.now s.pre.2 (points_part _ _ _ p.points.ensures) m.masks.new.1.1.1.0
     m.masks.auto.1.1.1.0)
 
 sides-requires : tie.Need-sides-requires
@@ -117,10 +117,10 @@ sides-requires c κs =
     let p = ruled m in
     let s = start p in
     let e = p.points.ensures in
-    let l = back_long _ _ s.args.lines.now s.pre.2 (points-part _ _ _ p.points.ensures) m.masks.new.1.1.1.0
+    let l = back_long _ _ s.args.lines.now s.pre.2 (points_part _ _ _ p.points.ensures) m.masks.new.1.1.1.0
     m.masks.auto.1.1.1.0 in (
       s.pre.0,
-      front_long _ _ s.args.round.now s.pre.1 (surround-part _ _ _ e) ∙ ap (λ n. n + s.args.width + 2) e,
+      front_long _ _ s.args.round.now s.pre.1 (surround_part _ _ _ e) ∙ ap (λ n. n + s.args.width + 2) e,
       l ∙ e,
       s.pre.4,
     )
@@ -139,10 +139,10 @@ returns c =
     let m = c.before.before.before.before.before.before.before.before.before.before.before.before.before in
     let p = ruled m in
     let s = start p in
-    let f = front-back _ _ s.args.lines.now s.pre.2 (points-part _ _ _ p.points.ensures) m.masks.new.1.1.1.0
+    let f = front_back _ _ s.args.lines.now s.pre.2 (points_part _ _ _ p.points.ensures) m.masks.new.1.1.1.0
     m.masks.auto.1.1.1.0 in
     let x = c.before.before.before.before.before.before.before.before.nexts.ensures in
-    lined-all _ _ _ p.points.ensures _ _ _ _ _ f m.masks.ensures x c.before.before.sides.ensures
+    lined_all _ _ _ p.points.ensures _ _ _ _ _ f m.masks.ensures x c.before.before.sides.ensures
 
 pub draw-lines-spec : {M : Type 1} → statement M
 draw-lines-spec =

@@ -1,7 +1,7 @@
 use mathlib.Core.Path.{sym, ◌∙◌}
 use borrow.Author.Rules.{rules}
 use Rattle.table_entries.proofs.Front.{front_long}
-use Rattle.region_names.proofs.Room.{points-part}
+use Rattle.region_names.proofs.Room.{points_part}
 use Rattle.drawing.proofs.parts.draw_parents.Statement.{statement}
 use Rattle.drawing.proofs.parts.draw_parents.Tie as tie
 
@@ -15,7 +15,7 @@ slice-aggregate-find-parents : tie.Need-slice-aggregate-find-parents
 slice-aggregate-find-parents c =
     let p = c.before in
     let s = p.before.before.before.before in
-    sym (front_long _ _ s.args.top.now s.requires.1 (points-part _ _ _ p.points.ensures))
+    sym (front_long _ _ s.args.top.now s.requires.1 (points_part _ _ _ p.points.ensures))
 
 find-parents-requires : tie.Need-find-parents-requires
 find-parents-requires c κs =
@@ -23,7 +23,7 @@ find-parents-requires c κs =
     let s = p.before.before.before.before in
     let e = p.points.ensures in (
       s.requires.0,
-      front_long _ _ s.args.top.now s.requires.1 (points-part _ _ _ e) ∙ e,
+      front_long _ _ s.args.top.now s.requires.1 (points_part _ _ _ e) ∙ e,
       rw e s.requires.2,
       s.requires.3,
       s.requires.4,

@@ -1,7 +1,7 @@
 use mathlib.Core.Path.{sym, ap, ◌∙◌}
 use Prim.Native.Nat.{◌+◌}
 use Rattle.table_entries.proofs.Front.{front_long}
-use Rattle.region_names.proofs.Room.{surround-part}
+use Rattle.region_names.proofs.Room.{surround_part}
 use borrow.Author.Rules.{rules}
 use Rattle.drawing.proofs.parts.draw_totals.Statement.{statement}
 use Rattle.drawing.proofs.parts.draw_totals.Tie as tie
@@ -22,7 +22,7 @@ slice-aggregate-totals : tie.Need-slice-aggregate-totals
 slice-aggregate-totals c =
     let p = c.before in
     let s = p.before.before.before.before.before in
-    sym (front_long _ _ s.args.round.now s.requires.1 (surround-part _ _ _ p.points.ensures))
+    sym (front_long _ _ s.args.round.now s.requires.1 (surround_part _ _ _ p.points.ensures))
 
 totals-requires : tie.Need-totals-requires
 totals-requires c κs =
@@ -31,7 +31,7 @@ totals-requires c κs =
     let q = s.requires in
     let e = p.points.ensures in (
       q.0,
-      front_long _ _ s.args.round.now q.1 (surround-part _ _ _ e) ∙ ap (λ n. n + s.args.width + 2) e,
+      front_long _ _ s.args.round.now q.1 (surround_part _ _ _ e) ∙ ap (λ n. n + s.args.width + 2) e,
       rw e q.2,
       q.3,
       q.4,

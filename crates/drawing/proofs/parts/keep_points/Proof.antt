@@ -1,9 +1,9 @@
 use mathlib.Core.Path.{sym, ◌∙◌}
 use borrow.Author.Rules.{rules}
-use Rattle.table_entries.proofs.Front.{front-in, front_long, front-back, back_in, back_long}
-use Rattle.region_names.proofs.Room.{points-part}
-use Rattle.region_parents.proofs.Rise.{tops-rising}
-use Rattle.drawing.proofs.Part.{kept-all}
+use Rattle.table_entries.proofs.Front.{front_in, front_long, front_back, back_in, back_long}
+use Rattle.region_names.proofs.Room.{points_part}
+use Rattle.region_parents.proofs.Rise.{tops_rising}
+use Rattle.drawing.proofs.Part.{kept_all}
 use Rattle.drawing.proofs.parts.keep_points.Statement.{statement}
 use Rattle.drawing.proofs.parts.keep_points.Tie as tie
 
@@ -22,21 +22,21 @@ slice-relend-prefix-top-points c =
     let p = c in
     let s = start p in
     let e = p.points.ensures in
-    front-in _ _ s.args.top.now s.pre.3 (points-part _ _ _ e)
+    front_in _ _ s.args.top.now s.pre.3 (points_part _ _ _ e)
 
 slice-aggregate-top-points : tie.Need-slice-aggregate-top-points
 slice-aggregate-top-points c =
     let p = c.before in
     let s = start p in
     let e = p.points.ensures in
-    sym (front_long _ _ s.args.top.now s.pre.3 (points-part _ _ _ e))
+    sym (front_long _ _ s.args.top.now s.pre.3 (points_part _ _ _ e))
 
 top-points-requires : tie.Need-top-points-requires
 top-points-requires c κs =
     let p = c.before in
     let s = start p in
     let e = p.points.ensures in
-    (s.pre.0, s.pre.1, front_long _ _ s.args.top.now s.pre.3 (points-part _ _ _ e) ∙ e)
+    (s.pre.0, s.pre.1, front_long _ _ s.args.top.now s.pre.3 (points_part _ _ _ e) ∙ e)
 
 slice-aggregate-keeps : tie.Need-slice-aggregate-keeps
 slice-aggregate-keeps c =
@@ -44,7 +44,7 @@ slice-aggregate-keeps c =
     let p = t.before.before in
     let s = start p in
     let e = p.points.ensures in
-    sym (front_long _ _ s.args.lines.now s.pre.2 (points-part _ _ _ e))
+    sym (front_long _ _ s.args.lines.now s.pre.2 (points_part _ _ _ e))
 
 slice-reshare-prefix-keeps : tie.Need-slice-reshare-prefix-keeps
 slice-reshare-prefix-keeps c =
@@ -52,7 +52,7 @@ slice-reshare-prefix-keeps c =
     let p = t.before.before in
     let s = start p in
     let e = p.points.ensures in
-    back_in _ _ s.args.top.now s.pre.3 (points-part _ _ _ e) t.top-points.new.1.1.1.0
+    back_in _ _ s.args.top.now s.pre.3 (points_part _ _ _ e) t.top-points.new.1.1.1.0
     t.top-points.auto.1.1.1.0
 
 slice-aggregate-keeps-2 : tie.Need-slice-aggregate-keeps-2
@@ -61,7 +61,7 @@ slice-aggregate-keeps-2 c =
     let p = t.before.before in
     let s = start p in
     let e = p.points.ensures in
-    sym (back_long _ _ s.args.top.now s.pre.3 (points-part _ _ _ e) t.top-points.new.1.1.1.0
+    sym (back_long _ _ s.args.top.now s.pre.3 (points_part _ _ _ e) t.top-points.new.1.1.1.0
     t.top-points.auto.1.1.1.0)
 
 slice-relend-prefix-keeps : tie.Need-slice-relend-prefix-keeps
@@ -70,7 +70,7 @@ slice-relend-prefix-keeps c =
     let p = t.before.before in
     let s = start p in
     let e = p.points.ensures in
-    front-in _ _ s.args.kept.now s.pre.4 (points-part _ _ _ e)
+    front_in _ _ s.args.kept.now s.pre.4 (points_part _ _ _ e)
 
 slice-aggregate-keeps-3 : tie.Need-slice-aggregate-keeps-3
 slice-aggregate-keeps-3 c =
@@ -78,7 +78,7 @@ slice-aggregate-keeps-3 c =
     let p = t.before.before in
     let s = start p in
     let e = p.points.ensures in
-    sym (front_long _ _ s.args.kept.now s.pre.4 (points-part _ _ _ e))
+    sym (front_long _ _ s.args.kept.now s.pre.4 (points_part _ _ _ e))
 
 keeps-requires : tie.Need-keeps-requires
 keeps-requires c κs =
@@ -86,14 +86,14 @@ keeps-requires c κs =
     let p = t.before.before in
     let s = start p in
     let e = p.points.ensures in
-    let l = back_long _ _ s.args.top.now s.pre.3 (points-part _ _ _ e) t.top-points.new.1.1.1.0
+    let l = back_long _ _ s.args.top.now s.pre.3 (points_part _ _ _ e) t.top-points.new.1.1.1.0
     t.top-points.auto.1.1.1.0 in (
       s.pre.0,
-      front_long _ _ s.args.lines.now s.pre.2 (points-part _ _ _ e) ∙ e,
+      front_long _ _ s.args.lines.now s.pre.2 (points_part _ _ _ e) ∙ e,
       l ∙ e,
-      front_long _ _ s.args.kept.now s.pre.4 (points-part _ _ _ e) ∙ e,
-      tops-rising _ _ _ _
-          (front-back _ _ s.args.top.now s.pre.3 (points-part _ _ _ e) t.top-points.new.1.1.1.0
+      front_long _ _ s.args.kept.now s.pre.4 (points_part _ _ _ e) ∙ e,
+      tops_rising _ _ _ _
+          (front_back _ _ s.args.top.now s.pre.3 (points_part _ _ _ e) t.top-points.new.1.1.1.0
           t.top-points.auto.1.1.1.0
           ∙ t.top-points.ensures),
     )
@@ -111,11 +111,11 @@ returns c =
     let s = start p in
     let e = p.points.ensures in
     let k = c.before.before.keeps in
-    let f = front-back _ _ s.args.top.now s.pre.3 (points-part _ _ _ e) t.top-points.new.1.1.1.0
+    let f = front_back _ _ s.args.top.now s.pre.3 (points_part _ _ _ e) t.top-points.new.1.1.1.0
     t.top-points.auto.1.1.1.0 in
-    let g = front-back _ _ s.args.kept.now s.pre.4 (points-part _ _ _ e) k.new.1.1.1.1.0
+    let g = front_back _ _ s.args.kept.now s.pre.4 (points_part _ _ _ e) k.new.1.1.1.1.0
     k.auto.1.1.1.1.0 in
-    kept-all _ _ _ e _ _ _ _ _ _ f t.top-points.ensures g k.ensures
+    kept_all _ _ _ e _ _ _ _ _ _ f t.top-points.ensures g k.ensures
 
 pub keep-points-spec : {M : Type 1} → statement M
 keep-points-spec =

@@ -1,6 +1,6 @@
 use Rattle.answer.specs.Answer.{number_of}
-use Rattle.join_answer.proofs.Judging.{judged-told}
-use Rattle.editor_answer.proofs.Asking.{asked-open, asked-told}
+use Rattle.join_answer.proofs.Judging.{judged_told}
+use Rattle.editor_answer.proofs.Asking.{asked_open, asked_told}
 use Rattle.editor_answer.proofs.asked.asked.Statement.{statement}
 use Rattle.editor_answer.proofs.asked.asked.Tie as tie
 
@@ -18,16 +18,16 @@ unfolding number_of
 asked-requires c κs =
     let j = c.before in
     let m = j.before in
-    let q = judged-told _ _ _ _ _ j.judged-or.ensures m.may-call.ensures in
-    λ z. m.before.before.before.before.requires (asked-open _ _ _ _ _ _ _ q c.named.result c.named.ensures z)
+    let q = judged_told _ _ _ _ _ j.judged-or.ensures m.may-call.ensures in
+    λ z. m.before.before.before.before.requires (asked_open _ _ _ _ _ _ _ q c.named.result c.named.ensures z)
 
 returns : tie.Need-returns
 unfolding number_of
 returns c =
     let n = c.before in
     let j = n.before in
-    let q = judged-told _ _ _ _ _ j.judged-or.ensures j.before.may-call.ensures in
-    asked-told _ _ _ _ _ _ _ q _ n.named.ensures _ _ _ _ c.asked.ensures
+    let q = judged_told _ _ _ _ _ j.judged-or.ensures j.before.may-call.ensures in
+    asked_told _ _ _ _ _ _ _ q _ n.named.ensures _ _ _ _ c.asked.ensures
 
 pub asked-spec : {M : Type 1} → statement M
 asked-spec = tie.close (tie.spec may-call-requires judged-or-requires named-requires asked-requires returns)

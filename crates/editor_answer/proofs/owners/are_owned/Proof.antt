@@ -4,13 +4,13 @@ use Prim.Native.Nat.{◌-◌}
 use native.Mathlib.Omega.{arith}
 use lib.ListN.{length, drop}
 use Rattle.laws.specs.Every.{every}
-use Rattle.paper.specs.Editor.{isEditor, owned}
-use Rattle.editor_answer.proofs.Owning.{owned-more, owned-all}
+use Rattle.paper.specs.Editor.{is_editor, owned}
+use Rattle.editor_answer.proofs.Owning.{owned_more, owned_all}
 use Rattle.editor_answer.proofs.owners.are_owned.Statement.{statement}
 use Rattle.editor_answer.proofs.owners.are_owned.Tie as tie
 
 abbrev invariant-loop : tie.invariant-loop
-invariant-loop owners right₀ i₀ right i = (right && every isEditor (drop i owners)) ≡ owned owners
+invariant-loop owners right₀ i₀ right i = (right && every is_editor (drop i owners)) ≡ owned owners
 
 abbrev decreases-loop : tie.decreases-loop
 decreases-loop owners right₀ i₀ right i = length owners - i
@@ -37,10 +37,10 @@ loop-less c = omega arith
 loop-again : tie.Need-loop-preserved invariant-loop decreases-loop
 loop-again c =
     let l = c.before.before.before in
-    owned-more _ l.loop.right _ l.loop.invariant _ c.is-editor.ensures c.before.before.loop-test.true
+    owned_more _ l.loop.right _ l.loop.invariant _ c.is-editor.ensures c.before.before.loop-test.true
 
 returns : tie.Need-returns invariant-loop decreases-loop
-returns c = owned-all _ _ _ c.before.loop.invariant c.loop-test.false
+returns c = owned_all _ _ _ c.before.loop.invariant c.loop-test.false
 
 pub are-owned-spec : {M : Type 1} → statement M
 are-owned-spec =

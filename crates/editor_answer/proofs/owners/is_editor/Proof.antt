@@ -1,10 +1,10 @@
 use mathlib.Core.Path.{refl}
-use Rattle.paper.specs.Editor.{isEditor}
+use Rattle.paper.specs.Editor.{is_editor}
 use Rattle.editor_answer.proofs.owners.is_editor.Statement.{statement}
 use Rattle.editor_answer.proofs.owners.is_editor.Tie as tie
 
 returns : tie.Need-returns
-unfolding isEditor
+unfolding is_editor
 returns c = refl
 
 pub is-editor-spec : {M : Type 1} → statement M

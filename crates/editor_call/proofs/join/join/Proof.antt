@@ -1,8 +1,8 @@
 use mathlib.Core.Path.{refl, sym, ◌∙◌}
-use Rattle.check_answer.proofs.Given.{accepted-within, accepted-stated}
-use Rattle.table_lengths.proofs.Tested.{stated-slots}
-use Rattle.join_rule.proofs.Readiness.{ready-pair}
-use Rattle.editor_call.proofs.Answering.{owners-stop, asked-stops, asked-ready, asked-joined}
+use Rattle.check_answer.proofs.Given.{accepted_within, accepted_stated}
+use Rattle.table_lengths.proofs.Tested.{stated_slots}
+use Rattle.join_rule.proofs.Readiness.{ready_pair}
+use Rattle.editor_call.proofs.Answering.{owners_stop, asked_stops, asked_ready, asked_joined}
 use Rattle.editor_call.proofs.join.join.Statement.{statement}
 use Rattle.editor_call.proofs.join.join.Tie as tie
 
@@ -28,7 +28,7 @@ are-stated-requires : tie.Need-are-stated-requires
 are-stated-requires c κs = tt
 
 returns : tie.Need-returns
-returns c = owners-stop _ _ _ _ _ _ _ _ _ c.before.are-stated.ensures c.if1.true
+returns c = owners_stop _ _ _ _ _ _ _ _ _ c.before.are-stated.ensures c.if1.true
 
 check-requires : tie.Need-check-requires
 check-requires c κs = tt
@@ -37,7 +37,7 @@ asked-requires : tie.Need-asked-requires
 asked-requires c κs =
     let k = c.before.before.before.before.before.before.before.before.before.before in
     let e = k.check.ensures in
-    λ z. (accepted-within _ _ _ _ _ _ e z, (stated-slots _ _ _ _ (accepted-stated _ _ _ _ _ _ e z)).1.0)
+    λ z. (accepted_within _ _ _ _ _ _ e z, (stated_slots _ _ _ _ (accepted_stated _ _ _ _ _ _ e z)).1.0)
 
 number-requires : tie.Need-number-requires
 number-requires c κs = tt
@@ -81,7 +81,7 @@ returns-2 c =
     let k = asked n in
     let v = checked k in
     let s = stated v in
-    asked-stops _ _ _ _ _ _ _ _ _ s.before.are-stated.ensures s.if1.left _ _ v.check.ensures _ k.asked.ensures
+    asked_stops _ _ _ _ _ _ _ _ _ s.before.are-stated.ensures s.if1.left _ _ v.check.ensures _ k.asked.ensures
     (λ z. c.if2.true (n.number.ensures ∙ z))
 
 apply-requires : tie.Need-apply-requires
@@ -91,8 +91,8 @@ apply-requires c κs =
     let v = checked k in
     let s = stated v in
     let z = sym n.number.ensures ∙ c.before.before.before.before.before.before.before.before.before.if2.false in
-    ready-pair _ _ _ _ _ _ _ _ _
-    (asked-ready _ _ _ _ _ _ _ _ _ s.before.are-stated.ensures s.if1.left _ _ v.check.ensures _ k.asked.ensures z)
+    ready_pair _ _ _ _ _ _ _ _ _
+    (asked_ready _ _ _ _ _ _ _ _ _ s.before.are-stated.ensures s.if1.left _ _ v.check.ensures _ k.asked.ensures z)
 
 same-length-12 : tie.Need-same-length-12
 same-length-12 c = (joined c).apply.auto.1.1.1.1.0
@@ -139,7 +139,7 @@ returns-3 c =
     let v = checked k in
     let s = stated v in
     let z = sym n.number.ensures ∙ p.before.before.before.before.before.before.before.before.before.before.if2.left in
-    asked-joined _ _ _ _ _ _ _ _ _ s.before.are-stated.ensures s.if1.left _ _ v.check.ensures _ k.asked.ensures z
+    asked_joined _ _ _ _ _ _ _ _ _ s.before.are-stated.ensures s.if1.left _ _ v.check.ensures _ k.asked.ensures z
     _ _ _ _ _ _ refl _ p.apply.ensures.0 p.apply.ensures.1
 
 pub join-spec : {M : Type 1} → statement M

@@ -1,5 +1,5 @@
 use mathlib.Core.Path.{sym, ◌∙◌}
-use Rattle.editor_call.proofs.Starting.{start-refused, start-unowned, start-owned}
+use Rattle.editor_call.proofs.Starting.{start_refused, start_unowned, start_owned}
 use Rattle.editor_call.proofs.start.refusal.Statement.{statement}
 use Rattle.editor_call.proofs.start.refusal.Tie as tie
 
@@ -10,7 +10,7 @@ number-requires : tie.Need-number-requires
 number-requires c κs = tt
 
 returns : tie.Need-returns
-returns c = let n = c.before in start-refused _ _ _ _ _ _ n.before.refusal.ensures (λ z. c.if1.true (n.number.ensures ∙ z))
+returns c = let n = c.before in start_refused _ _ _ _ _ _ n.before.refusal.ensures (λ z. c.if1.true (n.number.ensures ∙ z))
 
 are-owned-requires : tie.Need-are-owned-requires
 are-owned-requires c κs = tt
@@ -19,14 +19,14 @@ returns-2 : tie.Need-returns-2
 returns-2 c =
     let i = c.before.before in
     let n = i.before in
-    start-unowned _ _ _ _ _ _ n.before.refusal.ensures (sym n.number.ensures ∙ i.if1.false) _ c.before.are-owned.ensures
+    start_unowned _ _ _ _ _ _ n.before.refusal.ensures (sym n.number.ensures ∙ i.if1.false) _ c.before.are-owned.ensures
     c.if2.true
 
 returns-3 : tie.Need-returns-3
 returns-3 c =
     let i = c.before.before in
     let n = i.before in
-    start-owned _ _ _ _ _ _ n.before.refusal.ensures (sym n.number.ensures ∙ i.if1.false) _ c.before.are-owned.ensures
+    start_owned _ _ _ _ _ _ n.before.refusal.ensures (sym n.number.ensures ∙ i.if1.false) _ c.before.are-owned.ensures
     c.if2.false
 
 pub refusal-spec : {M : Type 1} → statement M

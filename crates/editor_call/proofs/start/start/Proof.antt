@@ -1,6 +1,6 @@
 use mathlib.Core.Path.{sym, ◌∙◌}
 use borrow.Author.Rules.{rules}
-use Rattle.editor_call.proofs.Starting.{start-drawn, start-cleared, start_left}
+use Rattle.editor_call.proofs.Starting.{start_drawn, start_cleared, start_left}
 use Rattle.editor_call.proofs.start.start.Statement.{statement}
 use Rattle.editor_call.proofs.start.start.Tie as tie
 
@@ -71,7 +71,7 @@ returns : tie.Need-returns
 returns c =
     let d = drawn c in
     let n = answered d in
-    start-drawn _ _ _ _ _ _ _ n.before.refusal.ensures (sym n.number.ensures ∙ d.before.before.before.before.before.before.before.before.before.before.before.before.if1.taken) _ _ _
+    start_drawn _ _ _ _ _ _ _ n.before.refusal.ensures (sym n.number.ensures ∙ d.before.before.before.before.before.before.before.before.before.before.before.before.if1.taken) _ _ _
     d.draw.ensures
 
 number-requires-2 : tie.Need-number-requires-2
@@ -98,7 +98,7 @@ returns-2 c =
     let m = later k in
     let i = m.before.before in
     let n = i.before in
-    start-cleared _ _ _ _ _ _ _ n.before.refusal.ensures (λ z. i.if1.left (n.number.ensures ∙ z)) _ m.before.number2.ensures
+    start_cleared _ _ _ _ _ _ _ n.before.refusal.ensures (λ z. i.if1.left (n.number.ensures ∙ z)) _ m.before.number2.ensures
     m.if2.taken _ k.clear-four.ensures
 
 returns-3 : tie.Need-returns-3

@@ -4,15 +4,15 @@ use native.Mathlib.Omega.{arith}
 use Prim.Native.Nat.{◌≤◌}
 use lib.ListN.{length}
 use borrow.Author.Tests.{not-false}
-use Rattle.laws.proofs.Table.{none-some, found_some}
+use Rattle.laws.proofs.Table.{none_some, found_some}
 use Rattle.point_darts.specs.Dart.{mark, slots, reversal}
-use Rattle.sheet_size.proofs.Limit.{within-limits}
-use Rattle.point_darts.proofs.Fit.{points-fit}
+use Rattle.sheet_size.proofs.Limit.{within_limits}
+use Rattle.point_darts.proofs.Fit.{points_fit}
 use Rattle.paper.specs.Joining.{shared}
 use Rattle.paper.specs.Refusal.{adjoin}
 use Rattle.join_darts.specs.Listed.{part, Gap}
-use Rattle.join_darts.proofs.Listing.{gap-after}
-use Rattle.join_shared.proofs.Sharing.{away-apart}
+use Rattle.join_darts.proofs.Listing.{gap_after}
+use Rattle.join_shared.proofs.Sharing.{away_apart}
 use Rattle.join_answer.proofs.adjoin.adjoin.Statement.{statement}
 use Rattle.join_answer.proofs.adjoin.adjoin.Tie as tie
 
@@ -38,7 +38,7 @@ unfolding slots mark
 is-free-requires c κs =
     let l = c.before in
     let q = (start l).requires in
-    (omega (arith, c.part-start.ensures), l.before.loop.invariant.0, omega (arith, q.1, points-fit _ _ q.0))
+    (omega (arith, c.part-start.ensures), l.before.loop.invariant.0, omega (arith, q.1, points_fit _ _ q.0))
 
 adjoin-part-requires : tie.Need-adjoin-part-requires invariant-loop decreases-loop
 unfolding slots mark
@@ -47,7 +47,7 @@ adjoin-part-requires c κs =
     let l = s.before in
     let q = (start l).requires in (
       omega (arith, s.part-start.ensures),
-      omega (arith, l.before.loop.invariant.0, q.1, points-fit _ _ q.0, (within-limits _ _ q.0).width-most),
+      omega (arith, l.before.loop.invariant.0, q.1, points_fit _ _ q.0, (within_limits _ _ q.0).width_most),
     )
 
 returns : tie.Need-returns invariant-loop decreases-loop
@@ -69,7 +69,7 @@ loop-again c =
     let p = c.before in
     let s = p.before.before.before in
     let (h, g) = s.before.before.loop.invariant in
-    (omega (arith, s.part-start.ensures), gap-after _ _ _ _ (p.adjoin-part.ensures.1 c.if2.false) g)
+    (omega (arith, s.part-start.ensures), gap_after _ _ _ _ (p.adjoin-part.ensures.1 c.if2.false) g)
 
 loop-less-2 : tie.Need-loop-smaller-2 invariant-loop decreases-loop
 unfolding part
@@ -83,14 +83,14 @@ loop-again-2 c =
     let s = f.before in
     let (h, g) = s.before.before.loop.invariant in
     let free = f.is_free.ensures.0 (not-false _ c.if1.false) in
-    (omega (arith, s.part-start.ensures), gap-after _ _ _ _ (λ d l u. away-apart _ _ _ _ d (free d l u)) g)
+    (omega (arith, s.part-start.ensures), gap_after _ _ _ _ (λ d l u. away_apart _ _ _ _ d (free d l u)) g)
 
 returns-2 : tie.Need-returns-2 invariant-loop decreases-loop
 unfolding adjoin
 returns-2 c =
     let g = c.before.loop.invariant.1 in
     let q = c.before.before.before.requires in
-    sym (none-some _ _ (λ d b. g d (omega (arith, c.loop-test.false)) (omega (arith, q.1))))
+    sym (none_some _ _ (λ d b. g d (omega (arith, c.loop-test.false)) (omega (arith, q.1))))
 
 pub adjoin-spec : {M : Type 1} → statement M
 adjoin-spec =

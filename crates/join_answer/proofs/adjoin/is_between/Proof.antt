@@ -1,6 +1,6 @@
 use mathlib.Core.Path.{◌∙◌}
 use borrow.Author.Rules.{rules}
-use Rattle.join_shared.proofs.Sides.{shared-first, shared_second, shared-neither}
+use Rattle.join_shared.proofs.Sides.{shared_first, shared_second, shared_neither}
 use Rattle.join_answer.proofs.adjoin.is_between.Statement.{statement}
 use Rattle.join_answer.proofs.adjoin.is_between.Tie as tie
 
@@ -12,10 +12,10 @@ is-left-requires c κs = search rules
 
 returns : tie.Need-returns
 returns c =
-    c.is-left.ensures ∙ shared-first _ _ _ _ _ _ c.before.before.get.ensures c.before.if1.true
+    c.is-left.ensures ∙ shared_first _ _ _ _ _ _ c.before.before.get.ensures c.before.if1.true
 
 returns-2 : tie.Need-returns-2
-returns-2 c = shared-neither _ _ _ _ _ _ c.before.before.get.ensures c.before.if1.false c.if2.true
+returns-2 c = shared_neither _ _ _ _ _ _ c.before.before.get.ensures c.before.if1.false c.if2.true
 
 is-left-requires-2 : tie.Need-is-left-requires-2
 is-left-requires-2 c κs = search rules

@@ -1,5 +1,5 @@
 use mathlib.Core.Path.{sym, ◌∙◌}
-use Rattle.join_answer.proofs.Asking.{asked-refused, asked-named, asked-apart, asked-done}
+use Rattle.join_answer.proofs.Asking.{asked_refused, asked_named, asked_apart, asked_done}
 use borrow.Author.Rules.{rules}
 use Rattle.join_answer.proofs.asked.asked.Statement.{statement}
 use Rattle.join_answer.proofs.asked.asked.Tie as tie
@@ -15,7 +15,7 @@ number-requires : tie.Need-number-requires
 number-requires c κs = search rules
 
 returns : tie.Need-returns
-returns c = asked-refused _ _ _ _ _ _ _ (λ z. c.if1.true (c.before.number.ensures ∙ z))
+returns c = asked_refused _ _ _ _ _ _ _ (λ z. c.if1.true (c.before.number.ensures ∙ z))
 
 check-names-requires : tie.Need-check-names-requires
 check-names-requires c κs = search rules
@@ -27,7 +27,7 @@ returns-2 : tie.Need-returns-2
 returns-2 c =
     let m = c.before in
     let n = named m in
-    asked-named _ _ _ _ _ _ _ (sym (answered n).number.ensures ∙ n.before.if1.left) _ n.check-names.ensures
+    asked_named _ _ _ _ _ _ _ (sym (answered n).number.ensures ∙ n.before.if1.left) _ n.check-names.ensures
     (λ z. c.if2.true (m.number2.ensures ∙ z))
 
 adjoin-requires : tie.Need-adjoin-requires
@@ -40,14 +40,14 @@ returns-3 : tie.Need-returns-3
 returns-3 c =
     let m = c.before.before.before in
     let n = named m in
-    asked-apart _ _ _ _ _ _ _ (sym (answered n).number.ensures ∙ n.before.if1.left) _ n.check-names.ensures
+    asked_apart _ _ _ _ _ _ _ (sym (answered n).number.ensures ∙ n.before.if1.left) _ n.check-names.ensures
     (sym m.number2.ensures ∙ c.before.before.if2.false) _ c.before.adjoin.ensures c.if3.true
 
 returns-4 : tie.Need-returns-4
 returns-4 c =
     let m = c.before.before.before in
     let n = named m in
-    asked-done _ _ _ _ _ _ _ (sym (answered n).number.ensures ∙ n.before.if1.left) _ n.check-names.ensures
+    asked_done _ _ _ _ _ _ _ (sym (answered n).number.ensures ∙ n.before.if1.left) _ n.check-names.ensures
     (sym m.number2.ensures ∙ c.before.before.if2.false) _ c.before.adjoin.ensures c.if3.false
 
 pub asked-spec : {M : Type 1} → statement M

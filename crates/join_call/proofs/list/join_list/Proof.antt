@@ -1,5 +1,5 @@
 use mathlib.Core.Path.{refl, sym, ◌∙◌}
-use Rattle.join_call.proofs.ByList.{list-stops, list_open, list-ends}
+use Rattle.join_call.proofs.ByList.{list_stops, list_open, list_ends}
 use Rattle.join_call.proofs.list.join_list.Statement.{statement}
 use Rattle.join_call.proofs.list.join_list.Tie as tie
 
@@ -65,7 +65,7 @@ same-length-11 c = (checked c.before.before).check.auto.1.1.1.1.1.1.1.1.1.1.1.1.
 returns : tie.Need-returns
 returns c =
     let j = c.before.before in
-    list-stops _ _ _ _ _ _ _ (checked j).check.ensures _ j.judged.ensures (λ z. c.if1.true (c.before.number.ensures ∙ z))
+    list_stops _ _ _ _ _ _ _ (checked j).check.ensures _ j.judged.ensures (λ z. c.if1.true (c.before.number.ensures ∙ z))
 
 join-all-requires : tie.Need-join-all-requires
 join-all-requires c κs =
@@ -123,7 +123,7 @@ returns-2 c =
     let i = a.before.before.before.before.before.before.before.before.before.before.before.before in
     let z = sym i.before.number.ensures ∙ i.if1.left in
     let p = a.join-all.ensures in
-    list-ends _ _ _ _ _ _ _ (checked j).check.ensures _ j.judged.ensures z _ _ _ _ refl _ _ _ p.0 p.1
+    list_ends _ _ _ _ _ _ _ (checked j).check.ensures _ j.judged.ensures z _ _ _ _ refl _ _ _ p.0 p.1
 
 pub join-list-spec : {M : Type 1} → statement M
 join-list-spec =

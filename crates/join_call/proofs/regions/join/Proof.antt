@@ -1,8 +1,8 @@
 use mathlib.Core.Path.{refl, sym, ◌∙◌}
-use Rattle.check_answer.proofs.Given.{accepted-within, accepted-stated}
-use Rattle.table_lengths.proofs.Tested.{stated-slots}
-use Rattle.join_rule.proofs.Readiness.{ready-pair}
-use Rattle.join_call.proofs.Answering.{asked-stops, asked-ready, asked-joined}
+use Rattle.check_answer.proofs.Given.{accepted_within, accepted_stated}
+use Rattle.table_lengths.proofs.Tested.{stated_slots}
+use Rattle.join_rule.proofs.Readiness.{ready_pair}
+use Rattle.join_call.proofs.Answering.{asked_stops, asked_ready, asked_joined}
 use Rattle.join_call.proofs.regions.join.Statement.{statement}
 use Rattle.join_call.proofs.regions.join.Tie as tie
 
@@ -28,7 +28,7 @@ asked-requires : tie.Need-asked-requires
 asked-requires c κs =
     let k = c.before.before.before.before.before.before.before.before.before.before in
     let e = k.check.ensures in
-    λ z. (accepted-within _ _ _ _ _ _ e z, (stated-slots _ _ _ _ (accepted-stated _ _ _ _ _ _ e z)).1.0)
+    λ z. (accepted_within _ _ _ _ _ _ e z, (stated_slots _ _ _ _ (accepted_stated _ _ _ _ _ _ e z)).1.0)
 
 number-requires : tie.Need-number-requires
 number-requires c κs = tt
@@ -70,14 +70,14 @@ returns : tie.Need-returns
 returns c =
     let n = c.before in
     let k = asked n in
-    asked-stops _ _ _ _ _ _ _ _ (checked k).check.ensures _ k.asked.ensures (λ z. c.if1.true (n.number.ensures ∙ z))
+    asked_stops _ _ _ _ _ _ _ _ (checked k).check.ensures _ k.asked.ensures (λ z. c.if1.true (n.number.ensures ∙ z))
 
 apply-requires : tie.Need-apply-requires
 apply-requires c κs =
     let n = c.before.before.before.before.before.before.before.before.before.before in
     let k = asked n in
     let z = sym n.number.ensures ∙ c.before.before.before.before.before.before.before.before.before.if1.false in
-    ready-pair _ _ _ _ _ _ _ _ _ (asked-ready _ _ _ _ _ _ _ _ (checked k).check.ensures _ k.asked.ensures z)
+    ready_pair _ _ _ _ _ _ _ _ _ (asked_ready _ _ _ _ _ _ _ _ (checked k).check.ensures _ k.asked.ensures z)
 
 same-length-12 : tie.Need-same-length-12
 same-length-12 c = (joined c).apply.auto.1.1.1.1.0
@@ -122,7 +122,7 @@ returns-2 c =
     let n = answered p in
     let k = asked n in
     let z = sym n.number.ensures ∙ p.before.before.before.before.before.before.before.before.before.before.if1.left in
-    asked-joined _ _ _ _ _ _ _ _ (checked k).check.ensures _ k.asked.ensures z _ _ _ _ _ _ refl _ p.apply.ensures.0
+    asked_joined _ _ _ _ _ _ _ _ (checked k).check.ensures _ k.asked.ensures z _ _ _ _ _ _ refl _ p.apply.ensures.0
     p.apply.ensures.1
 
 pub join-spec : {M : Type 1} → statement M

@@ -3,20 +3,20 @@ use Prim.Native.Nat.{◌-◌, ◌<◌}
 use native.Mathlib.Omega.{arith}
 use lib.ListN.{get_or}
 use Rattle.point_darts.specs.Dart.{mark, slots}
-use Rattle.point_darts.proofs.Fit.{darts-fit, dart-fits}
-use Rattle.point_darts.proofs.Reach.{slot-point}
+use Rattle.point_darts.proofs.Fit.{darts_fit, dart_fits}
+use Rattle.point_darts.proofs.Reach.{slot_point}
 use Rattle.paper.specs.Joining.{on, close, closes}
 use Rattle.join_darts.specs.Links.{links}
 use Rattle.join_darts.specs.Visited.{Visited}
 use Rattle.join_darts.proofs.Going.{Going, going_start, going_on, going_less}
-use Rattle.join_close.proofs.Closing.{closes-none, closes-more}
+use Rattle.join_close.proofs.Closing.{closes_none, closes_more}
 use Rattle.join_close.proofs.close.close.Statement.{statement}
 use Rattle.join_close.proofs.close.close.Tie as tie
 
 abbrev invariant-loop : tie.invariant-loop
 invariant-loop width height first list point_table before lines tops next₀ other₀ n dart₀ next other dart =
     (g : Visited (closes (on lines) tops) (close (on lines) tops) (links next₀ other₀) (slots width height) first list)
-    → Going (closes (on lines) tops) (close (on lines) tops) (closes-none (on lines) tops) (closes-more (on lines) tops) width height
+    → Going (closes (on lines) tops) (close (on lines) tops) (closes_none (on lines) tops) (closes_more (on lines) tops) width height
     (links next₀ other₀)
     first
     list
@@ -65,8 +65,8 @@ close-point-requires : tie.Need-close-point-requires invariant-loop decreases-lo
 close-point-requires c κs =
     let i = visit c in
     let q = (start (counted i)).pre in
-    let p = slot-point _ _ _ (inside i) in
-    let (fit, below) = darts-fit _ _ q.0 _ refl _ p in
+    let p = slot_point _ _ _ (inside i) in
+    let (fit, below) = darts_fit _ _ q.0 _ refl _ p in
     rw c.point.ensures
     (q.1, fit, rw q.3 below, rw q.4 below, rw ((i.before.loop.inv q.8).nexts, q.5) below, rw q.6 p, q.7)
 
@@ -77,7 +77,7 @@ mul-dart : tie.Need-overflow-mul-dart invariant-loop decreases-loop
 unfolding mark
 mul-dart c =
     let i = visit (treated c).before in
-    omega (arith, dart-fits _ _ (start (counted i)).pre.0 _ refl _ (inside i))
+    omega (arith, dart_fits _ _ (start (counted i)).pre.0 _ refl _ (inside i))
 
 shared-slice-read-dart : tie.Need-shared-slice-read-dart invariant-loop decreases-loop
 shared-slice-read-dart c =

@@ -1,7 +1,7 @@
 use mathlib.Core.Path.{◌∙◌}
 use borrow.Author.Rules.{rules}
 use borrow.Author.Tests.{not-true, not-false}
-use Rattle.join_close.proofs.Closing.{top-fit, close_other, close-edges, close-big, close-loop}
+use Rattle.join_close.proofs.Closing.{top_fit, close_other, close_edges, close_big, close_loop}
 use Rattle.join_close.proofs.close.close_point.Statement.{statement}
 use Rattle.join_close.proofs.close.close_point.Tie as tie
 
@@ -43,7 +43,7 @@ returns-2 c =
     let g = c.before in
     let s = g.before.before in
     let t = two-asked g in
-    close-edges _ _ _ _ _ t.before.mask.ensures.0 _ t.two.ensures (not-false _ s.before.if1.false) _ _ _
+    close_edges _ _ _ _ _ t.before.mask.ensures.0 _ t.two.ensures (not-false _ s.before.if1.false) _ _ _
     s.seen.ensures.0 s.seen.ensures.1 g.get.ensures c.if2.true
 
 mask-requires-2 : tie.Need-mask-requires-2
@@ -67,7 +67,7 @@ returns-3 c =
     let g = edge-asked r in
     let s = g.before.before in
     let t = two-asked g in
-    close-big _ _ _ _ _ t.before.mask.ensures.0 _ t.two.ensures (not-false _ s.before.if1.left) _ _ _
+    close_big _ _ _ _ _ t.before.mask.ensures.0 _ t.two.ensures (not-false _ s.before.if1.left) _ _ _
     s.seen.ensures.0 s.seen.ensures.1 g.get.ensures r.before.before.before.if2.false _
     r.before.before.mask2.ensures.0 _ r.two2.ensures (not-true _ c.if3.true)
 
@@ -81,13 +81,13 @@ mask-requires-4 : tie.Need-mask-requires-4
 mask-requires-4 c κs =
     let t = c.before.before.before.before.before.before.before.before.before in
     let q = t.before.before.before.before.before.before.before.before.before.requires in
-    (top-fit _ _ _ q.6 q.1, top-fit _ _ _ q.6 q.3)
+    (top_fit _ _ _ q.6 q.1, top_fit _ _ _ q.6 q.3)
 
 seen-requires-2 : tie.Need-seen-requires-2
 seen-requires-2 c κs =
     let t = c.before.before.before.before.before.before.before.before.before.before in
     let q = t.before.before.before.before.before.before.before.before.before.requires in
-    top-fit _ _ _ q.6 q.1
+    top_fit _ _ _ q.6 q.1
 
 move-loop-requires : tie.Need-move-loop-requires
 move-loop-requires c κs = search rules
@@ -107,8 +107,8 @@ returns-4 c =
     let g = edge-asked r in
     let s = g.before.before in
     let t = two-asked g in
-    m.move-loop.ensures
-    ∙ close-loop _ _ _ _ _ t.before.mask.ensures.0 _ t.two.ensures (not-false _ s.before.if1.left) _ _ _
+    m.move_loop.ensures
+    ∙ close_loop _ _ _ _ _ t.before.mask.ensures.0 _ t.two.ensures (not-false _ s.before.if1.left) _ _ _
     s.seen.ensures.0 s.seen.ensures.1 g.get.ensures r.before.before.before.if2.false _
     r.before.before.mask2.ensures.0 _ r.two2.ensures (not-false _ i.if3.false) _ a.before.mask4.ensures.0
     _ _ a.seen2.ensures.0 a.seen2.ensures.1

@@ -1,6 +1,6 @@
 use mathlib.Core.Path.{◌∙◌}
 use Rattle.point_darts.specs.Dart.{mark}
-use Rattle.join_close.proofs.Closing.{move-loop}
+use Rattle.join_close.proofs.Closing.{move_loop}
 use Rattle.join_close.proofs.close.move_loop.Statement.{statement}
 use Rattle.join_close.proofs.close.move_loop.Tie as tie
 
@@ -35,7 +35,7 @@ returns c =
     let c6 = c2.before.before.before.before in
     let c10 = c6.before.before.before.before in
     let c14 = c10.before.before.before.before in
-    move-loop _ _ _ _ _ _ _ _ _ _ c14.put-pair.ensures c10.put-pair2.ensures c6.put-pair3.ensures
+    move_loop _ _ _ _ _ _ _ _ _ _ c14.put-pair.ensures c10.put-pair2.ensures c6.put-pair3.ensures
     c2.put-pair4.ensures
 
 pub move-loop-spec : {M : Type 1} → statement M

@@ -5,7 +5,7 @@ use native.Mathlib.Nat.{le_refl}
 use native.Mathlib.Omega.{arith}
 use Rattle.point_darts.specs.Dart.{mark}
 use Rattle.join_darts.specs.Listed.{bounds, Gap, Met}
-use Rattle.join_darts.proofs.Listing.{asked-none, asked-one}
+use Rattle.join_darts.proofs.Listing.{asked_none, asked_one}
 use Rattle.join_darts.proofs.list.is_free.Statement.{statement}
 use Rattle.join_darts.proofs.list.is_free.Tie as tie
 
@@ -42,7 +42,7 @@ loop-less c = omega arith
 loop-again : tie.Need-loop-preserved invariant-loop decreases-loop
 loop-again c =
     let (f, m, l, u) = c.before.before.before.loop.invariant in
-    (asked-none _ _ _ _ _ _ l (omega arith) f, asked-one _ _ _ _ _ _ l (omega arith) m, omega arith, omega arith)
+    (asked_none _ _ _ _ _ _ l (omega arith) f, asked_one _ _ _ _ _ _ l (omega arith) m, omega arith, omega arith)
 
 returns : tie.Need-returns invariant-loop decreases-loop
 returns c =

@@ -4,7 +4,7 @@ use lib.ListN.{length}
 use borrow.Author.Tests.{not-false}
 use Rattle.point_darts.specs.Dart.{mark}
 use Rattle.join_darts.specs.Listed.{bounds, part, Listing}
-use Rattle.join_darts.proofs.Listing.{listing_none, listing-gap, listing-all}
+use Rattle.join_darts.proofs.Listing.{listing_none, listing_gap, listing_all}
 use Rattle.join_darts.proofs.list.list_darts.Statement.{statement}
 use Rattle.join_darts.proofs.list.list_darts.Tie as tie
 
@@ -47,14 +47,14 @@ loop-less-2 c = omega arith
 
 loop-again-2 : tie.Need-loop-preserved-2 invariant-loop decreases-loop
 loop-again-2 c =
-    listing-gap _ _ _ _ _ _ c.before.before.before.before.loop.invariant (omega arith)
+    listing_gap _ _ _ _ _ _ c.before.before.before.before.loop.invariant (omega arith)
     (c.before.is_free.ensures.0 (not-false _ c.if1.false))
 
 same_length : tie.Need-same-length invariant-loop decreases-loop
 same_length c = c.before.loop.invariant.long
 
 returns : tie.Need-returns invariant-loop decreases-loop
-returns c = listing-all _ _ _ _ _ c.before.loop.invariant c.loop-test.false
+returns c = listing_all _ _ _ _ _ c.before.loop.invariant c.loop-test.false
 
 pub list-darts-spec : {M : Type 1} → statement M
 list-darts-spec =

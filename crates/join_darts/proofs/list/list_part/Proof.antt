@@ -4,7 +4,7 @@ use native.Mathlib.Omega.{arith}
 use lib.ListN.{length}
 use Rattle.point_darts.specs.Dart.{mark}
 use Rattle.join_darts.specs.Listed.{bounds, Listing}
-use Rattle.join_darts.proofs.Listing.{listing-gap, listing-more, listing-less, bounds-here}
+use Rattle.join_darts.proofs.Listing.{listing_gap, listing_more, listing_less, bounds_here}
 use Rattle.join_darts.proofs.list.list_part.Statement.{statement}
 use Rattle.join_darts.proofs.list.list_part.Tie as tie
 
@@ -49,7 +49,7 @@ loop-again : tie.Need-loop-preserved invariant-loop decreases-loop
 loop-again c =
     let r = c.before.before.before.before.loop.invariant.1 in
     let e = sym c.before.is-either.ensures ∙ c.if1.true in
-    (omega arith, listing-more _ _ _ _ _ _ r (omega arith) (bounds-here _ _ _ _ _ (omega arith) e))
+    (omega arith, listing_more _ _ _ _ _ _ r (omega arith) (bounds_here _ _ _ _ _ (omega arith) e))
 
 loop-less-2 : tie.Need-loop-smaller-2 invariant-loop decreases-loop
 loop-less-2 c = omega arith
@@ -58,7 +58,7 @@ loop-again-2 : tie.Need-loop-preserved-2 invariant-loop decreases-loop
 loop-again-2 c =
     let r = c.before.before.before.before.loop.invariant.1 in
     let e = sym c.before.is-either.ensures ∙ c.if1.false in
-    (omega arith, listing-less _ _ _ _ _ _ r (omega arith) (bounds-here _ _ _ _ _ (omega arith) e))
+    (omega arith, listing_less _ _ _ _ _ _ r (omega arith) (bounds_here _ _ _ _ _ (omega arith) e))
 
 same_length : tie.Need-same-length invariant-loop decreases-loop
 same_length c = c.before.loop.invariant.1.long
@@ -66,7 +66,7 @@ same_length c = c.before.loop.invariant.1.long
 returns : tie.Need-returns invariant-loop decreases-loop
 returns c =
     let i = c.before.loop.invariant in
-    listing-gap _ _ _ _ _ _ i.1 i.0 (λ d l h. absurd (omega arith))
+    listing_gap _ _ _ _ _ _ i.1 i.0 (λ d l h. absurd (omega arith))
 
 pub list-part-spec : {M : Type 1} → statement M
 list-part-spec =

@@ -5,7 +5,7 @@ use lib.ListN.{length}
 use Rattle.point_darts.specs.Dart.{mark}
 use Rattle.paper.specs.Joining.{on}
 use Rattle.join_darts.specs.Listed.{Chained}
-use Rattle.join_darts.proofs.Narrowing.{Narrowed, listed-all, narrowed_none, narrowed-rest, narrowed-more, narrowed-all}
+use Rattle.join_darts.proofs.Narrowing.{Narrowed, listed_all, narrowed_none, narrowed_rest, narrowed_more, narrowed_all}
 use Rattle.join_darts.proofs.list.narrow.Statement.{statement}
 use Rattle.join_darts.proofs.list.narrow.Tie as tie
 
@@ -24,12 +24,12 @@ reach-requires : tie.Need-reach-requires invariant-loop decreases-loop
 reach-requires c κs =
     let q = c.before.before.before.requires in
     let g = q.2 in
-    (q.0, q.1, record { test = g.test; start = 0; list = listed-all _ _ _ g.list })
+    (q.0, q.1, record { test = g.test; start = 0; list = listed_all _ _ _ g.list })
 
 loop-holds : tie.Need-loop-init invariant-loop decreases-loop
 loop-holds c = λ g.
     narrowed_none _ _ _ _ _ g.list refl _
-    (c.reach.ensures (record { test = g.test; start = 0; list = listed-all _ _ _ g.list }))
+    (c.reach.ensures (record { test = g.test; start = 0; list = listed_all _ _ _ g.list }))
 
 cast-reach : tie.Need-overflow-cast-reach invariant-loop decreases-loop
 cast-reach c = omega arith
@@ -48,7 +48,7 @@ reach-requires-2 c κs =
     let q = c.before.before.before.before.before.before.before.requires in
     let g = q.2 in
     let r = c.before.before.loop.invariant g in
-    let m = narrowed-rest _ _ _ _ _ g.list refl _ _ _ r c.before.loop-test.true in (
+    let m = narrowed_rest _ _ _ _ _ g.list refl _ _ _ r c.before.loop-test.true in (
       omega (arith, q.0, r.long),
       q.1 ∙ sym r.long,
       rw r.long (record { test = g.test; start = _; list = m }),
@@ -71,7 +71,7 @@ loop-less c =
     let q = c.before.before.before.before.before.before.before.before.requires in
     let g = q.2 in
     let r = c.before.before.before.loop.invariant g in
-    let m = narrowed-rest _ _ _ _ _ g.list refl _ _ _ r c.before.before.loop-test.true in
+    let m = narrowed_rest _ _ _ _ _ g.list refl _ _ _ r c.before.before.loop-test.true in
     let f = c.reach2.ensures (rw r.long (record { test = g.test; start = _; list = m })) in
     omega (arith, f.after)
 
@@ -79,15 +79,15 @@ loop-again : tie.Need-loop-preserved invariant-loop decreases-loop
 loop-again c = λ g.
     let r = c.before.before.before.loop.invariant g in
     let h = c.before.before.loop-test.true in
-    let m = narrowed-rest _ _ _ _ _ g.list refl _ _ _ r h in
-    narrowed-more _ _ _ _ _ g.list refl _ _ _ r h _
+    let m = narrowed_rest _ _ _ _ _ g.list refl _ _ _ r h in
+    narrowed_more _ _ _ _ _ g.list refl _ _ _ r h _
     (rw r.long at (c.reach2.ensures (rw r.long (record { test = g.test; start = _; list = m }))))
 
 same_length : tie.Need-same-length invariant-loop decreases-loop
 same_length c = (c.before.loop.invariant c.before.before.before.before.before.before.requires.2).long
 
 returns : tie.Need-returns invariant-loop decreases-loop
-returns c = λ g. narrowed-all _ _ _ _ _ g.list refl _ _ _ (c.before.loop.invariant g) c.loop-test.false
+returns c = λ g. narrowed_all _ _ _ _ _ g.list refl _ _ _ (c.before.loop.invariant g) c.loop-test.false
 
 pub narrow-spec : {M : Type 1} → statement M
 narrow-spec =

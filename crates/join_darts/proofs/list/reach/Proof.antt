@@ -4,7 +4,7 @@ use lib.ListN.{length}
 use Rattle.point_darts.specs.Dart.{mark}
 use Rattle.paper.specs.Joining.{on}
 use Rattle.join_darts.specs.Listed.{Walked}
-use Rattle.join_darts.proofs.Narrowing.{read-on, read_off, Reached, reached-none, reached-more, reached-here, reached-end}
+use Rattle.join_darts.proofs.Narrowing.{read_on, read_off, Reached, reached_none, reached_more, reached_here, reached_end}
 use Rattle.join_darts.proofs.list.reach.Statement.{statement}
 use Rattle.join_darts.proofs.list.reach.Tie as tie
 
@@ -19,7 +19,7 @@ unfolding mark
 cast-n c = omega (arith, c.requires.0)
 
 loop-holds : tie.Need-loop-init invariant-loop decreases-loop
-loop-holds c = λ g. reached-none _ _ _ _ _ _ g.list
+loop-holds c = λ g. reached_none _ _ _ _ _ _ g.list
 
 cast-if1 : tie.Need-overflow-cast-if1 invariant-loop decreases-loop
 cast-if1 c = omega arith
@@ -36,7 +36,7 @@ unfolding mark
 returns c =
     let q = c.before.before.before.before.requires in
     let h = c.before.before.loop-test.true in
-    λ g. reached-here _ _ _ _ _ (c.before.before.before.loop.invariant g) h (read-on _ _ (omega (arith, q.1)) c.if1.true)
+    λ g. reached_here _ _ _ _ _ (c.before.before.before.loop.invariant g) h (read_on _ _ (omega (arith, q.1)) c.if1.true)
 
 cast-dart : tie.Need-overflow-cast-dart invariant-loop decreases-loop
 cast-dart c = omega arith
@@ -61,11 +61,11 @@ loop-again c =
     let q = c.before.before.before.before.before.requires in
     let h = c.before.before.before.loop-test.true in
     λ g.
-    reached-more _ _ _ _ _ _ _ g.list (c.before.before.before.before.loop.invariant g) h
+    reached_more _ _ _ _ _ _ _ g.list (c.before.before.before.before.loop.invariant g) h
     (read_off _ _ (omega (arith, q.1)) c.before.if1.false)
 
 returns-2 : tie.Need-returns-2 invariant-loop decreases-loop
-returns-2 c = λ g. reached-end _ _ _ _ _ (c.before.loop.invariant g) c.loop-test.false
+returns-2 c = λ g. reached_end _ _ _ _ _ (c.before.loop.invariant g) c.loop-test.false
 
 pub reach-spec : {M : Type 1} → statement M
 reach-spec =

@@ -5,9 +5,9 @@ use native.Mathlib.Omega.{arith}
 use lib.ListN.{length}
 use Rattle.paper.specs.Drawing.{Tables}
 use Rattle.join_groups.specs.Group.{Standing}
-use Rattle.join_groups.proofs.Entries.{whole-most, rest-less}
+use Rattle.join_groups.proofs.Entries.{whole_most, rest_less}
 use Rattle.join_groups.proofs.Pairing.{done_none}
-use Rattle.join_groups.proofs.Stopping.{Stood, stood-start, stood-end, stood-stops, stood_on, same-lengths}
+use Rattle.join_groups.proofs.Stopping.{Stood, stood_start, stood_end, stood_stops, stood_on, same_lengths}
 use Rattle.join_groups.proofs.each.join_each.Statement.{statement}
 use Rattle.join_groups.proofs.each.join_each.Tie as tie
 
@@ -44,10 +44,10 @@ kept : (c : tie.At-loop invariant-loop decreases-loop)
     × (length l.list ≡ length a.list.now) × (length l.last ≡ length a.last.now)
 kept c =
     let (h, u, v) = (start c).requires.1 in
-    same-lengths _ h _ _ _ _ _ _ _ _ _ _ u _ v (c.loop.invariant h u v).standing
+    same_lengths _ h _ _ _ _ _ _ _ _ _ _ u _ v (c.loop.invariant h u v).standing
 
 loop-holds : tie.Need-loop-init invariant-loop decreases-loop
-loop-holds c = λ h t v. stood-start _ h _ t _ _ _ _ _ _ v
+loop-holds c = λ h t v. stood_start _ h _ t _ _ _ _ _ _ v
 
 shared-slice-read-join-pair : tie.Need-shared-slice-read-join-pair invariant-loop decreases-loop
 shared-slice-read-join-pair c = omega (arith, more c.before)
@@ -81,7 +81,7 @@ returns : tie.Need-returns invariant-loop decreases-loop
 returns c h u v =
     let j = refused c in
     let i = tested j in
-    stood-stops _ h _ u _ _ _ _ _ _ _ _ (i.before.loop.inv h u v) (more i) _ _ _ _ _ j.join-pair.ensures
+    stood_stops _ h _ u _ _ _ _ _ _ _ _ (i.before.loop.inv h u v) (more i) _ _ _ _ _ j.join-pair.ensures
     (λ y. c.if1.true (c.before.number.ensures ∙ y))
 
 sub-rest : tie.Need-overflow-sub-rest invariant-loop decreases-loop
@@ -98,10 +98,10 @@ add-place c =
     let l = (tested (joined c.before)).before in
     let (w, p) = (start l).pre in
     let (h, u, v) = p in
-    omega (arith, (l.loop.inv h u v).going.long, whole-most _ _ w)
+    omega (arith, (l.loop.inv h u v).going.long, whole_most _ _ w)
 
 loop-less : tie.Need-loop-smaller invariant-loop decreases-loop
-loop-less c = let i = tested (joined c.before) in rest-less i.before.loop.rest.now (more i)
+loop-less c = let i = tested (joined c.before) in rest_less i.before.loop.rest.now (more i)
 
 loop-again : tie.Need-loop-preserved invariant-loop decreases-loop
 loop-again c = λ h u v.
@@ -123,7 +123,7 @@ same-length-8 : tie.Need-same-length-8 invariant-loop decreases-loop
 same-length-8 c = (kept c.before).3
 
 returns-2 : tie.Need-returns-2 invariant-loop decreases-loop
-returns-2 c h u v = rw done_none (stood-end _ h _ u _ _ _ _ _ _ _ _ (c.before.loop.invariant h u v) c.loop-test.false)
+returns-2 c h u v = rw done_none (stood_end _ h _ u _ _ _ _ _ _ _ _ (c.before.loop.invariant h u v) c.loop-test.false)
 
 pub join-each-spec : {M : Type 1} → statement M
 join-each-spec =

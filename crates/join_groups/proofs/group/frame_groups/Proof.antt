@@ -3,12 +3,12 @@ use mathlib.Core.List.{map}
 use Prim.Native.Nat.{suc, ◌+◌}
 use native.Mathlib.Omega.{arith}
 use borrow.Author.Rules.{rules}
-use Rattle.sheet_size.proofs.Limit.{within-limits}
-use Rattle.point_darts.proofs.Fit.{points-fit}
-use Rattle.table_entries.proofs.Front.{front-in, front_long, front-back}
+use Rattle.sheet_size.proofs.Limit.{within_limits}
+use Rattle.point_darts.proofs.Fit.{points_fit}
+use Rattle.table_entries.proofs.Front.{front_in, front_long, front_back}
 use Rattle.region_names.specs.Frame.{framed}
-use Rattle.region_names.proofs.Room.{surround-part}
-use Rattle.join_groups.proofs.Regrouping.{forest-down}
+use Rattle.region_names.proofs.Room.{surround_part}
+use Rattle.join_groups.proofs.Regrouping.{forest_down}
 use Rattle.join_groups.proofs.group.frame_groups.Statement.{statement}
 use Rattle.join_groups.proofs.group.frame_groups.Tie as tie
 
@@ -21,12 +21,12 @@ points-requires c κs = c.before.before.before.before.before.before.requires.0
 add-around : tie.Need-overflow-add-around
 add-around c =
     let e = c.before.before.before.before.before.before.before.requires.0 in
-    omega (arith, c.points.ensures, points-fit _ _ e, (within-limits _ _ e).width-most)
+    omega (arith, c.points.ensures, points_fit _ _ e, (within_limits _ _ e).width_most)
 
 add-around-2 : tie.Need-overflow-add-around-2
 add-around-2 c =
     let e = c.before.before.before.before.before.before.before.requires.0 in
-    omega (arith, c.points.ensures, points-fit _ _ e, (within-limits _ _ e).width-most)
+    omega (arith, c.points.ensures, points_fit _ _ e, (within_limits _ _ e).width_most)
 
 cast-around : tie.Need-overflow-cast-around
 cast-around c = search rules
@@ -35,13 +35,13 @@ slice-relend-prefix-frame : tie.Need-slice-relend-prefix-frame
 slice-relend-prefix-frame c =
     let p = c.before in
     let s = p.before.before.before.before.before.before.before in
-    front-in _ _ s.args.round.now s.requires.2 (surround-part _ _ _ p.points.ensures)
+    front_in _ _ s.args.round.now s.requires.2 (surround_part _ _ _ p.points.ensures)
 
 slice-aggregate-frame : tie.Need-slice-aggregate-frame
 slice-aggregate-frame c =
     let p = c.before.before in
     let s = p.before.before.before.before.before.before.before in
-    sym (front_long _ _ s.args.round.now s.requires.2 (surround-part _ _ _ p.points.ensures))
+    sym (front_long _ _ s.args.round.now s.requires.2 (surround_part _ _ _ p.points.ensures))
 
 frame-requires : tie.Need-frame-requires
 frame-requires c κs =
@@ -52,8 +52,8 @@ frame-requires c κs =
     let e = p.points.ensures in (
       z,
       f.flatten.auto.0 ∙ n,
-      forest-down _ _ _ _ _ (f.flatten.ensures g) g.forest,
-      front_long _ _ s.args.round.now l (surround-part _ _ _ e) ∙ ap (λ n. n + s.args.width + 2) e,
+      forest_down _ _ _ _ _ (f.flatten.ensures g) g.forest,
+      front_long _ _ s.args.round.now l (surround_part _ _ _ e) ∙ ap (λ n. n + s.args.width + 2) e,
     )
 
 same_length : tie.Need-same-length
@@ -70,7 +70,7 @@ returns c l g =
     let s = f.before.before.before.before in
     let e = p.points.ensures in
     rw (← e)
-    (front-back _ _ s.args.round.now s.requires.2 (surround-part _ _ _ e) k.frame.new.1.1.1.0 k.frame.auto.1.1.1.0)
+    (front_back _ _ s.args.round.now s.requires.2 (surround_part _ _ _ e) k.frame.new.1.1.1.0 k.frame.auto.1.1.1.0)
     ∙ k.frame.ensures
     ∙ ap (λ u. framed s.args.width s.args.height (map suc u)) (f.flatten.ensures (record { labels = l; forest = g }))
 

@@ -1,6 +1,6 @@
 use mathlib.Core.Path.{◌∙◌}
-use Rattle.join_groups.proofs.Standing.{standing-grown}
-use Rattle.join_groups.proofs.Regrouping.{standing-cells, stopped-regrouped}
+use Rattle.join_groups.proofs.Standing.{standing_grown}
+use Rattle.join_groups.proofs.Regrouping.{standing_cells, stopped_regrouped}
 use Rattle.join_groups.proofs.group.regroup.Statement.{statement}
 use Rattle.join_groups.proofs.group.regroup.Tie as tie
 
@@ -25,7 +25,7 @@ join-each-requires c κs =
     let s = c.before.before.before.before.before.before.before.before.before.before.before.before.before in
     let p = (begun s).requires in
     let (t, d, q, z) = p.7 in
-    (p.0, (_, t, standing-cells _ _ _ _ _ _ _ _ t z (s.start.ensures t d q)))
+    (p.0, (_, t, standing_cells _ _ _ _ _ _ _ _ t z (s.start.ensures t d q)))
 
 frame-groups-requires : tie.Need-frame-groups-requires
 frame-groups-requires c κs =
@@ -33,8 +33,8 @@ frame-groups-requires c κs =
     let s = started j in
     let p = (begun s).pre in
     let (t, d, q, z) = p.7 in
-    let v = (j.join-each.ensures _ t (standing-cells _ _ _ _ _ _ _ _ t z (s.start.ensures t d q))).standing in
-    (p.1, v.noded, v.listed.0, standing-grown _ _ _ _ _ _ _ _ _ v)
+    let v = (j.join-each.ensures _ t (standing_cells _ _ _ _ _ _ _ _ t z (s.start.ensures t d q))).standing in
+    (p.1, v.noded, v.listed.0, standing_grown _ _ _ _ _ _ _ _ _ v)
 
 same_length : tie.Need-same-length
 same_length c = (joined c.before.before.before.before).join-each.auto.1.1.1.0
@@ -63,8 +63,8 @@ returns : tie.Need-returns
 returns c t d q z =
     let f = c.before.before.before.before in
     let j = joined f in
-    stopped-regrouped _ _ _ _ _ t _ _ _ _ _ _ _
-    (j.join-each.ensures _ t (standing-cells _ _ _ _ _ _ _ _ t z ((started j).start.ensures t d q))) f.frame-groups.ensures
+    stopped_regrouped _ _ _ _ _ t _ _ _ _ _ _ _
+    (j.join-each.ensures _ t (standing_cells _ _ _ _ _ _ _ _ t z ((started j).start.ensures t d q))) f.frame-groups.ensures
 
 pub regroup-spec : {M : Type 1} → statement M
 regroup-spec =

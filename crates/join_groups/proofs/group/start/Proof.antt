@@ -1,7 +1,7 @@
 use mathlib.Core.Path.{sym, ◌∙◌}
 use native.Mathlib.Omega.{arith}
-use Rattle.paper_laws.proofs.Marks.{within-fits}
-use Rattle.join_groups.proofs.Regrouping.{names-some, sides-fit, standing-first}
+use Rattle.paper_laws.proofs.Marks.{within_fits}
+use Rattle.join_groups.proofs.Regrouping.{names_some, sides_fit, standing_first}
 use Rattle.join_groups.proofs.group.start.Statement.{statement}
 use Rattle.join_groups.proofs.group.start.Tie as tie
 
@@ -23,13 +23,13 @@ take-one-requires c κs =
     let e = c.before.before.before in
     let p = (begun e).requires in
     let (t, d, q) = p.6 in
-    names-some _ _ p.0 t d _ q _ e.recover.ensures
+    names_some _ _ p.0 t d _ q _ e.recover.ensures
 
 list-sides-requires : tie.Need-list-sides-requires
 list-sides-requires c κs =
     let p = (begun (recovered c.before.before.before.before.before)).requires in
     let (t, d, q) = p.6 in
-    (p.1 ∙ sym p.3, omega (arith, p.3, within-fits _ _ p.0), p.4 ∙ sym p.5, sides-fit _ _ p.0 t d _ q _ p.4)
+    (p.1 ∙ sym p.3, omega (arith, p.3, within_fits _ _ p.0), p.4 ∙ sym p.5, sides_fit _ _ p.0 t d _ q _ p.4)
 
 same_length : tie.Need-same-length
 same_length c =
@@ -52,7 +52,7 @@ returns c t d q =
     let e = recovered o in
     let p = (begun e).pre in
     let k = l.list-sides.auto.1 in
-    standing-first _ _ p.0 t d _ q p.1 _ _ _ _ _ e.recover.ensures o.take-one.ensures
+    standing_first _ _ p.0 t d _ q p.1 _ _ _ _ _ e.recover.ensures o.take-one.ensures
     (o.take-one.kept.0 ∙ e.recover.kept.1.1.1.0 ∙ p.2) (k.0 ∙ p.3) (k.1.0 ∙ p.4) (k.1.1.0 ∙ p.5) l.list-sides.ensures
 
 pub start_spec : {M : Type 1} → statement M

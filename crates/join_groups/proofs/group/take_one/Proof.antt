@@ -3,7 +3,7 @@ use Prim.Native.Nat.{◌-◌}
 use native.Mathlib.Nat.{le_refl}
 use native.Mathlib.Omega.{arith}
 use lib.ListN.{get_or}
-use Rattle.table_entries.proofs.Half.{Half, half-none, half-more, half-all}
+use Rattle.table_entries.proofs.Half.{Half, half_none, half_more, half_all}
 use Rattle.join_groups.proofs.group.take_one.Statement.{statement}
 use Rattle.join_groups.proofs.group.take_one.Tie as tie
 
@@ -14,7 +14,7 @@ abbrev decreases-loop : tie.decreases-loop
 decreases-loop names₀ n i₀ names i = n - i
 
 loop-holds : tie.Need-loop-init invariant-loop decreases-loop
-loop-holds c = half-none _ _
+loop-holds c = half_none _ _
 
 mul-names : tie.Need-overflow-mul-names invariant-loop decreases-loop
 mul-names c = omega arith
@@ -39,13 +39,13 @@ loop-less c = omega arith
 loop-again : tie.Need-loop-preserved invariant-loop decreases-loop
 loop-again c =
     let v = c.before.before.loop.invariant in
-    half-more _ _ _ _ _ v c.before.loop-test.true (ap (λ k. k - 1) (v.rest _ (le_refl _)))
+    half_more _ _ _ _ _ v c.before.loop-test.true (ap (λ k. k - 1) (v.rest _ (le_refl _)))
 
 same_length : tie.Need-same-length invariant-loop decreases-loop
 same_length c = c.before.loop.invariant.long
 
 returns : tie.Need-returns invariant-loop decreases-loop
-returns c = half-all _ _ _ _ _ c.before.loop.invariant refl c.loop-test.false
+returns c = half_all _ _ _ _ _ c.before.loop.invariant refl c.loop-test.false
 
 pub take-one-spec : {M : Type 1} → statement M
 take-one-spec =

@@ -1,7 +1,7 @@
 use mathlib.Core.Path.{refl, sym, ◌∙◌}
 use borrow.Author.Tests.{not-false}
-use Rattle.join_groups.proofs.Standing.{Chosen, passed-chosen}
-use Rattle.join_groups.proofs.Pairing.{done_none, apart_some, pair-named, pair-apart, pair-done, pair-ready, standing-joined}
+use Rattle.join_groups.proofs.Standing.{Chosen, passed_chosen}
+use Rattle.join_groups.proofs.Pairing.{done_none, apart_some, pair_named, pair_apart, pair_done, pair_ready, standing_joined}
 use Rattle.join_groups.proofs.pair.join_pair.Statement.{statement}
 use Rattle.join_groups.proofs.pair.join_pair.Tie as tie
 
@@ -19,7 +19,7 @@ shared c = c.before.before.before.before.before.before.before.before
 chosen : (s : tie.After-share) → let b = (begun (judged s).before).args in Chosen b.cells.now b.a b.b
 chosen s =
     let j = judged s in
-    passed-chosen _ _ _ (sym j.before.check-names.ensures ∙ sym j.number.ensures ∙ s.before.before.before.before.if1.false)
+    passed_chosen _ _ _ (sym j.before.check-names.ensures ∙ sym j.number.ensures ∙ s.before.before.before.before.if1.false)
 
 check-names-requires : tie.Need-check-names-requires
 check-names-requires c κs = tt
@@ -34,7 +34,7 @@ returns : tie.Need-returns
 returns c h u v =
     let k = c.before.before in
     let n = c.before.number.ensures in (
-      pair-named _ h _ _ _ _ _ _ u v _ _ _ k.check-names.ensures (λ e. c.if1.true (n ∙ e)),
+      pair_named _ h _ _ _ _ _ _ u v _ _ _ k.check-names.ensures (λ e. c.if1.true (n ∙ e)),
       λ e. absurd (c.if1.true (n ∙ e)),
       λ e. v,
     )
@@ -61,7 +61,7 @@ returns-2 c h u v =
     let j = judged s in
     let z = sym j.number.ensures ∙ s.before.before.before.before.if1.false in
     let (o, r) = s.share.ensures h _ u v in (
-      pair-apart _ h _ _ _ _ _ _ u v _ _ _ j.before.check-names.ensures z _ r c.if2.true,
+      pair_apart _ h _ _ _ _ _ _ u v _ _ _ j.before.check-names.ensures z _ r c.if2.true,
       λ e. absurd (apart_some e),
       λ e. o,
     )
@@ -72,7 +72,7 @@ put-together-requires c κs =
     let j = judged s in
     let (h, u, v) = (begun j.before).requires in
     let (o, _) = s.share.ensures h _ u v in
-    pair-ready _ h _ _ _ _ _ _ u o _ _ (chosen s)
+    pair_ready _ h _ _ _ _ _ _ u o _ _ (chosen s)
 
 same-length-5 : tie.Need-same-length-5
 same-length-5 c = c.before.before.before.before.before.before.before.before.put-together.auto.1.1.0
@@ -98,9 +98,9 @@ returns-3 c h u v =
     let k = p.put-together.auto in
     let q = p.put-together.ensures in
     let (o, r) = s.share.ensures h _ u v in (
-      pair-done _ h _ _ _ _ _ _ u v _ _ _ j.before.check-names.ensures z _ r i,
+      pair_done _ h _ _ _ _ _ _ u v _ _ _ j.before.check-names.ensures z _ r i,
       λ e.
-          standing-joined _ h _ _ _ _ _ _ u o _ _ (chosen s) (sym r ∙ not-false _ i) _ _ _ _ k.1.1.0 k.1.1.1.0 k.1.1.1.1.0
+          standing_joined _ h _ _ _ _ _ _ u o _ _ (chosen s) (sym r ∙ not-false _ i) _ _ _ _ k.1.1.0 k.1.1.1.0 k.1.1.1.1.0
           k.1.1.1.1.1.1.0 q.0 q.1.0 q.1.1,
       λ e. absurd (e done_none),
     )

@@ -1,6 +1,6 @@
 use native.Mathlib.Omega.{arith}
 use borrow.Author.Rules.{rules}
-use Rattle.join_groups.proofs.Pairing.{lists-swap}
+use Rattle.join_groups.proofs.Pairing.{lists_swap}
 use Rattle.join_groups.proofs.pair.link_lists.Statement.{statement}
 use Rattle.join_groups.proofs.pair.link_lists.Tie as tie
 
@@ -19,7 +19,7 @@ same-length-2 : tie.Need-same-length-2
 same-length-2 c = search rules
 
 returns : tie.Need-returns
-returns c s g d e l i j m o p = c.before.before.before.before.link-lists.ensures s g d e l i m o p
+returns c s g d e l i j m o p = c.before.before.before.before.link_lists.ensures s g d e l i m o p
 
 same-length-3 : tie.Need-same-length-3
 same-length-3 c = search rules
@@ -29,7 +29,7 @@ same-length-4 c = search rules
 
 returns-2 : tie.Need-returns-2
 returns-2 c s g d e l i j m o p q =
-    lists-swap s g _ _ _ _ _ (c.before.before.before.before.link-lists2.ensures s g e d l j m p o q)
+    lists_swap s g _ _ _ _ _ (c.before.before.before.before.link-lists2.ensures s g e d l j m p o q)
 
 pub link-lists-spec : {M : Type 1} → statement M
 link-lists-spec =

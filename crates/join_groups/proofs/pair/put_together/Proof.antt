@@ -42,7 +42,7 @@ returns c =
     let u = l.before.before.before.before in
     let z = u.before.before.before.before.before.before.before.requires in (
       u.add-up.ensures,
-      (λ m i f p q v w. l.link.ensures.1 m i f (omega (arith, z.0)) (omega (arith, z.1)) v w, k.link-lists.ensures),
+      (λ m i f p q v w. l.link.ensures.1 m i f (omega (arith, z.0)) (omega (arith, z.1)) v w, k.link_lists.ensures),
     )
 
 pub put-together-spec : {M : Type 1} → statement M

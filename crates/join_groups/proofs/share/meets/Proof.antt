@@ -7,13 +7,13 @@ use Rattle.paper.specs.Joining.{at}
 use Rattle.table_entries.proofs.Entries.{on_below}
 use Rattle.join_groups.proofs.Walking.{
   Walking,
-  walking-none,
-  grown-on,
-  walked-out,
+  walking_none,
+  grown_on,
+  walked_out,
   walked_through,
-  dart-sided,
+  dart_sided,
   name_below,
-  walked-met,
+  walked_met,
   walking_on,
 }
 use Rattle.join_groups.proofs.share.meets.Statement.{statement}
@@ -38,7 +38,7 @@ facing : (c : tie.After-get invariant-loop decreases-loop)
 facing c = c.get.ensures ∙ ap (at _) c.before.before.back.ensures
 
 loop-holds : tie.Need-loop-init invariant-loop decreases-loop
-loop-holds c = walking-none _ _ _ _ _ _
+loop-holds c = walking_none _ _ _ _ _ _
 
 same_length : tie.Need-same-length invariant-loop decreases-loop
 same_length c = c.before.before.loop.invariant.long
@@ -49,14 +49,14 @@ returns c l f =
     let b = c.before.before in
     let v = b.loop.invariant in
     let (_, m, _, _) = (begun b).requires in
-    (v.kept l f, λ e. absurd (false≢true e), λ e. walked-out _ _ _ _ _ _ _ _ _ v m c.if1.true l f)
+    (v.kept l f, λ e. absurd (false≢true e), λ e. walked_out _ _ _ _ _ _ _ _ _ v m c.if1.true l f)
 
 back-requires : tie.Need-back-requires invariant-loop decreases-loop
 unfolding mark
 back-requires c κs =
     let b = c.before.before in
     let (m, _, _, k) = (begun b).requires in
-    omega (arith, m, on_below _ _ (dart-sided _ _ _ _ _ _ _ _ _ b.loop.invariant c.if1.false k).0)
+    omega (arith, m, on_below _ _ (dart_sided _ _ _ _ _ _ _ _ _ b.loop.invariant c.if1.false k).0)
 
 get-requires : tie.Need-get-requires invariant-loop decreases-loop
 get-requires c κs = tt
@@ -67,7 +67,7 @@ group-of-requires c κs =
     let b = looped c in
     let v = b.loop.inv in
     let (_, _, g, k) = (begun b).pre in
-    (grown-on _ _ _ _ _ _ _ _ _ v g, name_below _ _ _ _ _ _ _ _ _ v c.before.before.before.if1.false k _ (facing c))
+    (grown_on _ _ _ _ _ _ _ _ _ v g, name_below _ _ _ _ _ _ _ _ _ v c.before.before.before.if1.false k _ (facing c))
 
 same-length-2 : tie.Need-same-length-2 invariant-loop decreases-loop
 same-length-2 c =
@@ -82,7 +82,7 @@ returns-2 c l f =
     let b = looped k in
     let i = k.before.before.before in
     let r =
-    walked-met _ _ _ _ _ _ _ _ _ b.loop.inv i.if1.false (begun b).pre.3 (omega (arith, i.before.loop-test.true)) _
+    walked_met _ _ _ _ _ _ _ _ _ b.loop.inv i.if1.false (begun b).pre.3 (omega (arith, i.before.loop-test.true)) _
     g.Group-of.auto.0 _ _ (facing k) g.Group-of.ensures c.if2.true l f in
     (r.0, λ e. r.1, λ e. absurd (true≢false e))
 

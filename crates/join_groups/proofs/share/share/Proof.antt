@@ -1,7 +1,7 @@
 use mathlib.Core.Path.{◌∙◌}
 use borrow.Author.Rules.{rules}
-use Rattle.join_groups.proofs.Sharing.{adjoin-swap}
-use Rattle.join_groups.proofs.Standing.{passed-chosen, chosen-swap, meets-ready, meets-told}
+use Rattle.join_groups.proofs.Sharing.{adjoin_swap}
+use Rattle.join_groups.proofs.Standing.{passed_chosen, chosen_swap, meets_ready, meets_told}
 use Rattle.join_groups.proofs.share.share.Statement.{statement}
 use Rattle.join_groups.proofs.share.share.Tie as tie
 
@@ -19,7 +19,7 @@ meets-requires c κs =
     let s = c.before.before.before.before.before.before.before.before.before.before in
     let (z, p) = s.requires in
     let (h, e, u, v) = p in
-    meets-ready _ h _ _ _ _ _ e u v _ _ _ (passed-chosen _ _ _ z) c.before.get3.ensures
+    meets_ready _ h _ _ _ _ _ e u v _ _ _ (passed_chosen _ _ _ z) c.before.get3.ensures
 
 same_length : tie.Need-same-length
 same_length c = search rules
@@ -29,7 +29,7 @@ returns c h e u v =
     let m = c.before.before in
     let i = m.before.before in
     let s = i.before.before.before.before.before.before.before.before.before in
-    meets-told _ h _ _ _ _ _ e u v _ _ _ (passed-chosen _ _ _ s.requires.0) i.get3.ensures _
+    meets_told _ h _ _ _ _ _ e u v _ _ _ (passed_chosen _ _ _ s.requires.0) i.get3.ensures _
     m.meets.auto.1.1.1.1.1.0 _ m.meets.ensures
 
 get-requires-4 : tie.Need-get-requires-4
@@ -40,7 +40,7 @@ meets-requires-2 c κs =
     let s = c.before.before.before.before.before.before.before.before.before.before in
     let (z, p) = s.requires in
     let (h, e, u, v) = p in
-    meets-ready _ h _ _ _ _ _ e u v _ _ _ (chosen-swap (passed-chosen _ _ _ z)) c.before.get4.ensures
+    meets_ready _ h _ _ _ _ _ e u v _ _ _ (chosen_swap (passed_chosen _ _ _ z)) c.before.get4.ensures
 
 same-length-2 : tie.Need-same-length-2
 same-length-2 c = search rules
@@ -51,9 +51,9 @@ returns-2 c h e u v =
     let i = m.before.before in
     let s = i.before.before.before.before.before.before.before.before.before in
     let (o, q) =
-    meets-told _ h _ _ _ _ _ e u v _ _ _ (chosen-swap (passed-chosen _ _ _ s.requires.0)) i.get4.ensures _
+    meets_told _ h _ _ _ _ _ e u v _ _ _ (chosen_swap (passed_chosen _ _ _ s.requires.0)) i.get4.ensures _
     m.meets2.auto.1.1.1.1.1.0 _ m.meets2.ensures in
-    (o, q ∙ adjoin-swap _ h _ _ _)
+    (o, q ∙ adjoin_swap _ h _ _ _)
 
 pub share-spec : {M : Type 1} → statement M
 share-spec =

@@ -5,12 +5,12 @@ use native.Mathlib.Omega.{arith}
 use lib.ListN.{length, drop}
 use Rattle.point_darts.proofs.Fit.{cells_fit}
 use Rattle.paper.specs.Order.{stop}
-use Rattle.table_entries.proofs.Cleared.{cleared-same}
-use Rattle.table_entries.proofs.Front.{front-in, front_long, front_kept}
-use Rattle.table_lengths.proofs.Tested.{stated-slots}
-use Rattle.region_names.proofs.Room.{cells-part}
-use Rattle.join_rule.proofs.Readiness.{front-cleared, rest-cleared}
-use Rattle.join_list.proofs.Ending.{stop-ended, open-pair, regrouped-stated}
+use Rattle.table_entries.proofs.Cleared.{cleared_same}
+use Rattle.table_entries.proofs.Front.{front_in, front_long, front_kept}
+use Rattle.table_lengths.proofs.Tested.{stated_slots}
+use Rattle.region_names.proofs.Room.{cells_part}
+use Rattle.join_rule.proofs.Readiness.{front_cleared, rest_cleared}
+use Rattle.join_list.proofs.Ending.{stop_ended, open_pair, regrouped_stated}
 use Rattle.join_list.proofs.each.join_all.Statement.{statement}
 use Rattle.join_list.proofs.each.join_all.Tie as tie
 
@@ -44,7 +44,7 @@ join-short-requires : tie.Need-join-short-requires
 join-short-requires c κs =
     let d = c.before.before.before.before.before.before.before.before.before.before in
     let q = d.before.before.before.before.before.before.before.before.before.before.before.before.requires in
-    (q.0, open-pair _ _ _ _ _ _ _ q.1, front-cleared _ _ _ _ q.2)
+    (q.0, open_pair _ _ _ _ _ _ _ q.1, front_cleared _ _ _ _ q.2)
 
 same_length : tie.Need-same-length
 same_length c = (joined c).join-short.auto.1.1.1.0
@@ -77,7 +77,7 @@ returns : tie.Need-returns
 returns c =
     let j = joined c in
     let (p, q) = j.join-short.ensures in
-    (p, rest-cleared _ _ _ _ (short j).pre.2 _ _ q)
+    (p, rest_cleared _ _ _ _ (short j).pre.2 _ _ q)
 
 -- the work table that is lent at its front keeps its length
 fronted : (r : tie.After-regroup)
@@ -85,8 +85,8 @@ fronted : (r : tie.After-regroup)
     length (r.regroup.new.1.1.1.1.1.0 ++ drop (s.width * s.height) s.work-a.now) ≡ length s.work-a.now
 fronted r =
     let s = begun r in
-    let z = (stated-slots _ _ _ _ s.pre.1.sizes).1.1.1.1.0 in
-    front_kept _ _ s.args.work-a.now z (cells-part _ _) r.regroup.new.1.1.1.1.1.0 r.regroup.auto.1.1.1.1.1.0
+    let z = (stated_slots _ _ _ _ s.pre.1.sizes).1.1.1.1.0 in
+    front_kept _ _ s.args.work-a.now z (cells_part _ _) r.regroup.new.1.1.1.1.1.0 r.regroup.auto.1.1.1.1.1.0
     ∙ sym z
 
 mul-n : tie.Need-overflow-mul-n
@@ -103,25 +103,25 @@ slice-relend-prefix-regroup : tie.Need-slice-relend-prefix-regroup
 slice-relend-prefix-regroup c =
     let d = c.before.before in
     let s = d.before.before.before.before.before.before.before.before.before.before.before.before.before in
-    front-in _ _ s.args.work-a.now (stated-slots _ _ _ _ s.requires.1.sizes).1.1.1.1.0 (cells-part _ _)
+    front_in _ _ s.args.work-a.now (stated_slots _ _ _ _ s.requires.1.sizes).1.1.1.1.0 (cells_part _ _)
 
 slice-aggregate-regroup : tie.Need-slice-aggregate-regroup
 slice-aggregate-regroup c =
     let d = c.before.before.before in
     let s = d.before.before.before.before.before.before.before.before.before.before.before.before.before in
-    sym (front_long _ _ s.args.work-a.now (stated-slots _ _ _ _ s.requires.1.sizes).1.1.1.1.0 (cells-part _ _))
+    sym (front_long _ _ s.args.work-a.now (stated_slots _ _ _ _ s.requires.1.sizes).1.1.1.1.0 (cells_part _ _))
 
 regroup-requires : tie.Need-regroup-requires
 regroup-requires c κs =
     let d = c.before.before.before.before.before.before in
     let s = d.before.before.before.before.before.before.before.before.before.before.before.before.before in
     let o = s.requires.1 in
-    let z = stated-slots _ _ _ _ o.sizes in
+    let z = stated_slots _ _ _ _ o.sizes in
     let k = z.1.1.1.1 in (
       s.requires.0,
       o.size,
       z.1.0,
-      front_long _ _ s.args.work-a.now k.0 (cells-part _ _),
+      front_long _ _ s.args.work-a.now k.0 (cells_part _ _),
       k.1.0,
       k.1.1.0,
       k.1.1.1.0,
@@ -136,7 +136,7 @@ draw-names-requires c κs =
     let k = r.regroup.auto.1.1.1.1 in
     let g = r.regroup.ensures _ o.drawn refl refl in (
       o.size,
-      regrouped-stated _ _ _ _ _ _ _ _ _ _ _ _ _ _ _ _ _ _ o.sizes k.0 (fronted r) k.1.1.0 k.1.1.1.0
+      regrouped_stated _ _ _ _ _ _ _ _ _ _ _ _ _ _ _ _ _ _ o.sizes k.0 (fronted r) k.1.1.0 k.1.1.1.0
           k.1.1.1.1.0,
       record { labels = g.labels; round = g.round },
     )
@@ -195,8 +195,8 @@ returns-2 c =
     let k = r.regroup.kept.1.1.1.1.1.1 in
     let g = r.regroup.ensures _ o.drawn refl refl in
     let p = d.draw-names.ensures in (
-      stop-ended _ _ _ _ (ap (stop _ _) (p.0 (record { labels = g.labels; round = g.round })) ∙ g.stops) _ c.told.ensures,
-      p.1 ∙ cleared-same _ _ _ _ _ _ _ _ (fronted r) k.0 k.1.0 k.1.1.0,
+      stop_ended _ _ _ _ (ap (stop _ _) (p.0 (record { labels = g.labels; round = g.round })) ∙ g.stops) _ c.told.ensures,
+      p.1 ∙ cleared_same _ _ _ _ _ _ _ _ (fronted r) k.0 k.1.0 k.1.1.0,
     )
 
 pub join-all-spec : {M : Type 1} → statement M

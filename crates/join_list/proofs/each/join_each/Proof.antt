@@ -6,10 +6,10 @@ use native.Mathlib.Omega.{arith}
 use lib.ListN.{length}
 use Rattle.answer.specs.Answer.{number_of}
 use Rattle.join_rule.specs.Apply.{found}
-use Rattle.join_groups.proofs.Entries.{rest-less, whole-most}
+use Rattle.join_groups.proofs.Entries.{rest_less, whole_most}
 use Rattle.join_list.proofs.Pairing.{done_none}
-use Rattle.join_list.proofs.Going.{Going, going_start, going_end, going-stops, going_on}
-use Rattle.join_list.proofs.Going.{found-stated, stated-same}
+use Rattle.join_list.proofs.Going.{Going, going_start, going_end, going_stops, going_on}
+use Rattle.join_list.proofs.Going.{found_stated, stated_same}
 use Rattle.join_list.proofs.each.join_each.Statement.{statement}
 use Rattle.join_list.proofs.each.join_each.Tie as tie
 
@@ -56,7 +56,7 @@ kept : (c : tie.At-loop invariant-loop decreases-loop)
     × (length l.next3 ≡ length a.next3.now) × (length l.other3 ≡ length a.other3.now)
     × (length l.cells ≡ length a.cells.now) × (length l.borders ≡ length a.borders.now)
     × (length l.back ≡ length a.back.now) × (length l.list ≡ length a.list.now)
-kept c = stated-same _ _ _ _ _ _ _ _ _ _ _ _ _ _ _ _ _ _ (start c).requires.1.sizes c.loop.invariant.lent.sizes
+kept c = stated_same _ _ _ _ _ _ _ _ _ _ _ _ _ _ _ _ _ _ (start c).requires.1.sizes c.loop.invariant.lent.sizes
 
 loop-holds : tie.Need-loop-init invariant-loop decreases-loop
 loop-holds c = going_start _ _ _ _ _ _ c.before.before.before.before.before.before.before.before.before.requires.1
@@ -103,7 +103,7 @@ returns c =
     let l = looped j in
     let p = j.join-pair.ensures in
     let z : number_of j.join-pair.result ≢ 0 = λ y. c.if1.true (c.before.number.ensures ∙ y) in
-    going-stops _ _ _ _ _ _ _ _ _ _ _ l.loop.inv (more (tested j)) _ p.0 z _ _ _ (p.2 z)
+    going_stops _ _ _ _ _ _ _ _ _ _ _ l.loop.inv (more (tested j)) _ p.0 z _ _ _ (p.2 z)
 
 sub-rest : tie.Need-overflow-sub-rest invariant-loop decreases-loop
 sub-rest c = more (tested (joined c))
@@ -117,10 +117,10 @@ part-rest-end c = le_refl _
 add-place : tie.Need-overflow-add-place invariant-loop decreases-loop
 add-place c =
     let l = looped (joined c.before) in
-    omega (arith, l.loop.inv.entries.long, whole-most _ _ (start l).pre.0)
+    omega (arith, l.loop.inv.entries.long, whole_most _ _ (start l).pre.0)
 
 loop-less : tie.Need-loop-smaller invariant-loop decreases-loop
-loop-less c = let i = tested (joined c.before) in rest-less i.before.loop.rest.now (more i)
+loop-less c = let i = tested (joined c.before) in rest_less i.before.loop.rest.now (more i)
 
 loop-again : tie.Need-loop-preserved invariant-loop decreases-loop
 loop-again c =
@@ -131,7 +131,7 @@ loop-again c =
     let k = j.join-pair.kept.1.1.1.1 in
     let k₄ = k.1.1.1.1 in
     going_on _ _ _ _ _ _ _ _ _ _ _ l.loop.inv (more (tested j)) _ p.0 z _ _ _ (p.1 z).0 (p.1 z).1
-    (found-stated _ _ _ _ _ _ _ _ _ _ _ _ _ _ _ _ _ _ l.loop.inv.lent.sizes k.0 k.1.0 k.1.1.0 k.1.1.1.0
+    (found_stated _ _ _ _ _ _ _ _ _ _ _ _ _ _ _ _ _ _ l.loop.inv.lent.sizes k.0 k.1.0 k.1.1.0 k.1.1.1.0
     k₄.0 k₄.1.0 k₄.1.1.0 k₄.1.1.1.0)
 
 same-length-9 : tie.Need-same-length-9 invariant-loop decreases-loop

@@ -1,8 +1,8 @@
 use mathlib.Core.Path.{◌∙◌}
 use borrow.Author.Rules.{rules}
-use Rattle.table_lengths.proofs.Tested.{stated-names, stated-slots}
-use Rattle.join_rule.proofs.Applying.{cleared-long}
-use Rattle.join_list.proofs.Ending.{open-found, all-ended}
+use Rattle.table_lengths.proofs.Tested.{stated_names, stated_slots}
+use Rattle.join_rule.proofs.Applying.{cleared_long}
+use Rattle.join_list.proofs.Ending.{open_found, all_ended}
 use Rattle.join_list.proofs.each.join_short.Statement.{statement}
 use Rattle.join_list.proofs.each.join_short.Tie as tie
 
@@ -24,7 +24,7 @@ join-each-requires : tie.Need-join-each-requires
 join-each-requires c κs =
     let d = c.before.before.before.before.before.before.before.before.before in
     let q = d.before.before.before.before.before.before.before.before.before.requires in
-    (q.0, open-found _ _ _ _ _ _ _ _ _ _ _ q.1)
+    (q.0, open_found _ _ _ _ _ _ _ _ _ _ _ q.1)
 
 parents-after-requires : tie.Need-parents-after-requires
 parents-after-requires c κs =
@@ -32,11 +32,11 @@ parents-after-requires c κs =
     let j = d.before.before.before.before.before.before.before.before.before.before in
     let q = (start j).requires in
     let k = j.join-each.auto.1.1.1.1 in
-    let z = stated-slots _ _ _ _ q.1.sizes in
+    let z = stated_slots _ _ _ _ q.1.sizes in
     let l = j.join-each.ensures.1 in (
       q.1.size,
       k.0 ∙ z.1.0,
-      (stated-names _ _ _ _ q.1.sizes).0,
+      (stated_names _ _ _ _ q.1.sizes).0,
       k.1.1.1.1.1.0 ∙ z.1.1.1.1.0,
       λ y. let (_, b, m) = l.none y in rw (b, m) q.2,
       l.some,
@@ -79,9 +79,9 @@ returns c =
     let q = (start j).pre in
     let k = j.join-each.kept.1.1.1.1.1.1.1.1.1 in
     let p = a.parents-after.ensures in (
-      all-ended _ _ _ _ _ _ _ _ _ _ _ q.1 _ _ _ _ _ _ _ _ _ _ _ _ j.join-each.ensures.0 j.join-each.ensures.1 p.0
+      all_ended _ _ _ _ _ _ _ _ _ _ _ q.1 _ _ _ _ _ _ _ _ _ _ _ _ j.join-each.ensures.0 j.join-each.ensures.1 p.0
           p.1 _ c.told.ensures,
-      p.2 ∙ cleared-long _ _ _ _ k.0 k.1.0,
+      p.2 ∙ cleared_long _ _ _ _ k.0 k.1.0,
     )
 
 pub join-short-spec : {M : Type 1} → statement M

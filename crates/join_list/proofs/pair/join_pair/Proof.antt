@@ -1,8 +1,8 @@
 use mathlib.Core.Path.{◌≡◌, refl, sym, ◌∙◌}
 use borrow.Author.Rules.{rules}
 use Rattle.answer.specs.Answer.{number_of}
-use Rattle.table_lengths.proofs.Tested.{stated-slots}
-use Rattle.join_list.proofs.Pairing.{done_none, pair-number, pair-ready}
+use Rattle.table_lengths.proofs.Tested.{stated_slots}
+use Rattle.join_list.proofs.Pairing.{done_none, pair_number, pair_ready}
 use Rattle.join_list.proofs.pair.join_pair.Statement.{statement}
 use Rattle.join_list.proofs.pair.join_pair.Tie as tie
 
@@ -27,7 +27,7 @@ passed c =
 asked-requires : tie.Need-asked-requires
 asked-requires c κs =
     let q = c.before.before.before.before.before.before.before.before.before.before.requires in
-    λ z. (q.size, (stated-slots _ _ _ _ q.sizes).1.0)
+    λ z. (q.size, (stated_slots _ _ _ _ q.sizes).1.0)
 
 number-requires : tie.Need-number-requires
 number-requires c κs = search rules
@@ -41,7 +41,7 @@ same-length-2 c = refl
 returns : tie.Need-returns
 returns c =
     let k = c.before.before in (
-      pair-number _ _ _ _ (start k).requires _ _ _ k.asked.ensures,
+      pair_number _ _ _ _ (start k).requires _ _ _ k.asked.ensures,
       λ z. absurd (c.if1.true (c.before.number.ensures ∙ z)),
       λ z. (refl, refl, refl),
     )
@@ -51,7 +51,7 @@ unite-requires c κs =
     let i = c.before.before.before.before.before.before.before.before in
     let n = i.before in
     let k = n.before in
-    pair-ready _ _ _ _ (start k).requires _ _ _ k.asked.ensures (sym n.number.ensures ∙ i.if1.false)
+    pair_ready _ _ _ _ (start k).requires _ _ _ k.asked.ensures (sym n.number.ensures ∙ i.if1.false)
 
 same-length-3 : tie.Need-same-length-3
 same-length-3 c = (united c).unite.auto.1.1.1.1.0
@@ -81,7 +81,7 @@ returns-2 : tie.Need-returns-2
 returns-2 c =
     let u = united c in
     let k = asked u in (
-      done_none ∙ sym (passed u) ∙ pair-number _ _ _ _ (start k).pre _ _ _ k.asked.ensures,
+      done_none ∙ sym (passed u) ∙ pair_number _ _ _ _ (start k).pre _ _ _ k.asked.ensures,
       λ z. u.unite.ensures,
       λ z. absurd (z done_none),
     )

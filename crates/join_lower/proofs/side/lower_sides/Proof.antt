@@ -5,8 +5,8 @@ use native.Mathlib.Omega.{arith}
 use Rattle.laws.specs.Least.{lower}
 use Rattle.point_darts.specs.Dart.{mark}
 use Rattle.paper.specs.Joining.{at, on}
-use Rattle.join_lower.proofs.Lowering.{side-more}
-use Rattle.table_entries.proofs.Half.{Half, half-none, half-more, half-all}
+use Rattle.join_lower.proofs.Lowering.{side_more}
+use Rattle.table_entries.proofs.Half.{Half, half_none, half_more, half_all}
 use Rattle.join_lower.proofs.side.lower_sides.Statement.{statement}
 use Rattle.join_lower.proofs.side.lower_sides.Tie as tie
 
@@ -17,7 +17,7 @@ abbrev decreases-loop : tie.decreases-loop
 decreases-loop a b lines side₀ n i₀ side i = n - i
 
 loop-holds : tie.Need-loop-init invariant-loop decreases-loop
-loop-holds c = half-none _ _
+loop-holds c = half_none _ _
 
 mul-side-left : tie.Need-overflow-mul-side-left invariant-loop decreases-loop
 mul-side-left c = omega arith
@@ -51,13 +51,13 @@ loop-again c =
     let p = c.before.before.before.before.loop.invariant in
     let q = c.before.before.before.before.before.before.before.requires in
     let h = c.before.before.before.loop-test.true in
-    half-more _ _ _ _ _ p h (side-more _ _ _ _ _ _ _ p q h c.side_left.ensures)
+    half_more _ _ _ _ _ p h (side_more _ _ _ _ _ _ _ p q h c.side_left.ensures)
 
 same_length : tie.Need-same-length invariant-loop decreases-loop
 same_length c = c.before.loop.invariant.long
 
 returns : tie.Need-returns invariant-loop decreases-loop
-returns c = half-all _ _ _ _ _ c.before.loop.invariant refl c.loop-test.false
+returns c = half_all _ _ _ _ _ c.before.loop.invariant refl c.loop-test.false
 
 pub lower-sides-spec : {M : Type 1} → statement M
 lower-sides-spec =

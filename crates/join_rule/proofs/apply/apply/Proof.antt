@@ -1,8 +1,8 @@
 use mathlib.Core.Path.{◌∙◌}
 use Rattle.paper.specs.Joining.{rest1, rest3, joined}
-use Rattle.table_lengths.proofs.Tested.{stated-names, stated-slots}
-use Rattle.join_rule.proofs.Applying.{cleared-long}
-use Rattle.join_rule.proofs.Readiness.{ready-found}
+use Rattle.table_lengths.proofs.Tested.{stated_names, stated_slots}
+use Rattle.join_rule.proofs.Applying.{cleared_long}
+use Rattle.join_rule.proofs.Readiness.{ready_found}
 use Rattle.join_rule.proofs.apply.apply.Statement.{statement}
 use Rattle.join_rule.proofs.apply.apply.Tie as tie
 
@@ -23,17 +23,17 @@ ended c = c.before.before.before.before.before.before
 unite-requires : tie.Need-unite-requires
 unite-requires c κs =
     let d = c.before.before.before.before.before.before.before.before in
-    ready-found _ _ _ _ _ _ _ _ _ _ _ _ d.before.before.before.before.before.before.before.before.before.requires
+    ready_found _ _ _ _ _ _ _ _ _ _ _ _ d.before.before.before.before.before.before.before.before.before.requires
 
 find-parents-requires : tie.Need-find-parents-requires
 find-parents-requires c κs =
     let d = c.before.before.before.before.before.before.before.before.before.before in
     let u = d.before.before.before.before.before.before.before.before.before.before in
     let q = (start u).requires in
-    let z = stated-slots _ _ _ _ q.sizes in (
+    let z = stated_slots _ _ _ _ q.sizes in (
       q.size,
       u.unite.auto.1.1.1.1.1.0 ∙ z.1.0,
-      (stated-names _ _ _ _ q.sizes).0,
+      (stated_names _ _ _ _ q.sizes).0,
       u.unite.auto.1.1.1.1.1.1.1.1.1.1.0 ∙ z.1.1.1.1.0,
       u.unite.ensures.1,
     )
@@ -72,7 +72,7 @@ returns c =
     let u = united f in
     let k = u.unite.kept.1.1.1.1.1.1.1.1.1.1 in (
       rw f.find-parents.ensures.0 u.unite.ensures.0,
-      f.find-parents.ensures.1 ∙ cleared-long _ _ _ _ k.0 k.1.0,
+      f.find-parents.ensures.1 ∙ cleared_long _ _ _ _ k.0 k.1.0,
     )
 
 pub apply-spec : {M : Type 1} → statement M

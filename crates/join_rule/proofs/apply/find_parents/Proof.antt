@@ -7,8 +7,8 @@ use lib.Seq.{length-take-le}
 use Rattle.point_darts.specs.Dart.{slots}
 use Rattle.paper.specs.Enclosure.{parents}
 use Rattle.paper.specs.Joining.{on}
-use Rattle.region_parents.proofs.Rise.{tops-rising}
-use Rattle.join_rule.proofs.Applying.{pair-cleared}
+use Rattle.region_parents.proofs.Rise.{tops_rising}
+use Rattle.join_rule.proofs.Applying.{pair_cleared}
 use Rattle.join_rule.proofs.apply.find_parents.Statement.{statement}
 use Rattle.join_rule.proofs.apply.find_parents.Tie as tie
 
@@ -41,7 +41,7 @@ find-parents-requires c κs =
     let e = p.points.ensures in (
       q.0,
       length-take-le _ _ (tops-room p) ∙ e,
-      tops-rising _ _ (on a.side1.now) _ (ap (λ n. take n a.back.now) e ∙ q.4),
+      tops_rising _ _ (on a.side1.now) _ (ap (λ n. take n a.back.now) e ∙ q.4),
       q.2,
       q.1,
     )
@@ -69,7 +69,7 @@ returns c =
     let f = y.before.before.before.before in
     let p = f.before.before.before in (
       rw (p.points.ensures, (start p).requires.4) at f.find-parents.ensures,
-      pair-cleared _ _ _ _ y.clear.ensures z.clear2.ensures,
+      pair_cleared _ _ _ _ y.clear.ensures z.clear2.ensures,
     )
 
 pub find-parents-spec : {M : Type 1} → statement M

@@ -1,7 +1,7 @@
 use mathlib.Core.Path.{◌∙◌}
 use borrow.Author.Rules.{rules}
-use Rattle.region_parents.proofs.Rise.{tops-rising}
-use Rattle.join_rule.proofs.Applying.{settle-links}
+use Rattle.region_parents.proofs.Rise.{tops_rising}
+use Rattle.join_rule.proofs.Applying.{settle_links}
 use Rattle.join_rule.proofs.apply.settle_curves.Statement.{statement}
 use Rattle.join_rule.proofs.apply.settle_curves.Tie as tie
 
@@ -43,7 +43,7 @@ close-requires c κs =
       q.2,
       s.smooth.auto.1.1.1.1.1.1.0 ∙ q.3,
       p.top-points.kept.1.1.1.0 ∙ q.4,
-      tops-rising _ _ _ _ p.top-points.ensures,
+      tops_rising _ _ _ _ p.top-points.ensures,
       rw (p.top-points.ensures, s.smooth.ensures) q.6.closing,
     )
 
@@ -67,7 +67,7 @@ returns c =
     let e = c.before.before.before.before in
     let s = smoothed e in
     let t = (topped (tabled s)).top-points.ensures in
-    (settle-links _ _ _ _ t _ _ _ s.smooth.ensures e.close.ensures, t)
+    (settle_links _ _ _ _ t _ _ _ s.smooth.ensures e.close.ensures, t)
 
 pub settle-curves-spec : {M : Type 1} → statement M
 settle-curves-spec =

@@ -5,13 +5,13 @@ use lib.ListN.{length}
 use lib.Seq.{length-take-le, length_front}
 use Rattle.point_darts.specs.Dart.{slots}
 use Rattle.paper.specs.Joining.{rest1, rest3}
-use Rattle.paper_laws.proofs.Marks.{within-fits}
-use Rattle.table_lengths.proofs.Tested.{stated-slots}
-use Rattle.table_entries.proofs.Front.{front-back}
+use Rattle.paper_laws.proofs.Marks.{within_fits}
+use Rattle.table_lengths.proofs.Tested.{stated_slots}
+use Rattle.table_entries.proofs.Front.{front_back}
 use Rattle.join_darts.specs.Listed.{bounds, Chained}
-use Rattle.join_darts.proofs.Listing.{bounded-on}
-use Rattle.join_rule.proofs.Applying.{all-joined}
-use Rattle.join_rule.proofs.Visiting.{list-visits}
+use Rattle.join_darts.proofs.Listing.{bounded_on}
+use Rattle.join_rule.proofs.Applying.{all_joined}
+use Rattle.join_rule.proofs.Visiting.{list_visits}
 use Rattle.join_rule.proofs.apply.unite.Statement.{statement}
 use Rattle.join_rule.proofs.apply.unite.Tie as tie
 
@@ -41,10 +41,10 @@ abbrev end : tie.After-slice-known20 → tie.After-settle
 end c = c.before.before.before.before.before.before.before.before
 
 -- The list is as long as the work table that it stands in.
-list-long : (c : tie.After-list-darts)
+list_long : (c : tie.After-list-darts)
     → length c.list-darts.new.1.1.1.0 ≡ slots (start c).args.width (start c).args.height
-list-long c =
-    let z = stated-slots _ _ _ _ (start c).requires.sizes in
+list_long c =
+    let z = stated_slots _ _ _ _ (start c).requires.sizes in
     c.list-darts.auto.1.1.1.0 ∙ z.1.1.1.1.1.0
 
 -- It has the darts of a and b.
@@ -60,7 +60,7 @@ lined-bounds c =
 narrow-long : (c : tie.After-narrow)
     → length c.narrow.new.1.1.0
     ≡ slots (start (listed (plain c))).args.width (start (listed (plain c))).args.height
-narrow-long c = c.narrow.auto.1.1.0 ∙ list-long (listed (plain c))
+narrow-long c = c.narrow.auto.1.1.0 ∙ list_long (listed (plain c))
 
 -- The table of reversals has room for the tops.
 work-room : (c : tie.After-points)
@@ -68,25 +68,25 @@ work-room : (c : tie.After-points)
 unfolding slots
 work-room c =
     let p = plain (narrowed (curved c)) in
-    let z = stated-slots _ _ _ _ (start (listed p)).requires.sizes in
+    let z = stated_slots _ _ _ _ (start (listed p)).requires.sizes in
     omega (arith, p.remove-plain-shared.kept.1.1.1.1.1.1.1.1.0, z.1.1.1.1.0, c.points.ensures)
 
 list-darts-requires : tie.Need-list-darts-requires
 list-darts-requires c κs =
     let q = c.before.before.before.before.before.before.before.before.before.before.requires in
-    let z = stated-slots _ _ _ _ q.sizes in
-    (z.1.0 ∙ sym z.1.1.1.1.1.0, omega (arith, z.1.1.1.1.1.0, within-fits _ _ q.size))
+    let z = stated_slots _ _ _ _ q.sizes in
+    (z.1.0 ∙ sym z.1.1.1.1.1.0, omega (arith, z.1.1.1.1.1.0, within_fits _ _ q.size))
 
 remove-plain-shared-requires : tie.Need-remove-plain-shared-requires
 remove-plain-shared-requires c κs =
     let l = c.before.before.before.before.before.before in
     let q = (start l).requires in
-    let z = stated-slots _ _ _ _ q.sizes in (
+    let z = stated_slots _ _ _ _ q.sizes in (
       q.size,
       q.first,
       q.second,
       z.1.0,
-      list-long l,
+      list_long l,
       z.0,
       z.1.1.1.1.0,
       rw z.1.1.1.1.1.0 at l.list-darts.ensures,
@@ -103,9 +103,9 @@ narrow-requires : tie.Need-narrow-requires
 narrow-requires c κs =
     let l = listed c.before.before.before.before.before.before.before.before.before.before.before.before.before in
     let q = (start l).pre in
-    let z = stated-slots _ _ _ _ q.sizes in
-    let e = list-long l in (
-      omega (arith, e, within-fits _ _ q.size),
+    let z = stated_slots _ _ _ _ q.sizes in
+    let e = list_long l in (
+      omega (arith, e, within_fits _ _ q.size),
       z.1.1.0 ∙ sym e,
       lined-bounds l,
     )
@@ -115,15 +115,15 @@ remove-shared-requires c κs =
     let m = c.before.before.before.before.before.before in
     let l = listed (plain m) in
     let q = (start l).pre in
-    let z = stated-slots _ _ _ _ q.sizes in (
-      within-fits _ _ q.size,
+    let z = stated_slots _ _ _ _ q.sizes in (
+      within_fits _ _ q.size,
       q.first,
       q.second,
       z.1.0,
       narrow-long m,
       z.1.1.0,
       z.1.1.1.0,
-      bounded-on _ _ _ _ _ _ _ (rw (list-long l) at (m.narrow.ensures (lined-bounds l))),
+      bounded_on _ _ _ _ _ _ _ (rw (list_long l) at (m.narrow.ensures (lined-bounds l))),
       q.curves,
       q.bare,
     )
@@ -149,14 +149,14 @@ settle-requires c κs =
     let p = plain m in
     let l = listed p in
     let q = (start l).pre in
-    let z = stated-slots _ _ _ _ q.sizes in (
+    let z = stated_slots _ _ _ _ q.sizes in (
       q.size,
       p.remove-plain-shared.kept.1.1.1.1.1.1.1.0 ∙ z.0,
       z.1.0,
       e.remove-shared.kept.1.1.1.1.1.1.1.0 ∙ z.1.1.0,
       length-take-le _ _ (work-room n) ∙ n.points.ensures,
       narrow-long m,
-      list-visits _ _ _ _ _ _ _ q.still (rw (list-long l) at (m.narrow.ensures (lined-bounds l))) _ _
+      list_visits _ _ _ _ _ _ _ q.still (rw (list_long l) at (m.narrow.ensures (lined-bounds l))) _ _
           p.remove-plain-shared.ensures.0 e.remove-shared.ensures,
     )
 
@@ -202,13 +202,13 @@ returns c =
     let e = curved n in
     let p = plain (narrowed e) in
     let a = start (listed p) in
-    let z = stated-slots _ _ _ _ a.pre.sizes in
-    let steps = all-joined _ _ _ _ _ _ _ _ _ _ a.pre.first a.pre.second z.1.0 a.pre.sided _ _ _ _ _ _ _
+    let z = stated_slots _ _ _ _ a.pre.sizes in
+    let steps = all_joined _ _ _ _ _ _ _ _ _ _ a.pre.first a.pre.second z.1.0 a.pre.sided _ _ _ _ _ _ _
     p.remove-plain-shared.ensures.0 e.remove-shared.ensures s.settle.ensures.0 s.settle.ensures.1 _
     (p.remove-plain-shared.ensures.1 ∙ a.pre.sums.twice) (totalled (narrowed e)).add-totals.ensures in (
       steps.0,
       rw (← n.points.ensures)
-          (front-back _ _ _ refl (work-room n) _ s.settle.kept.1.1.1.1.1.1.1.1.1.1.0)
+          (front_back _ _ _ refl (work-room n) _ s.settle.kept.1.1.1.1.1.1.1.1.1.1.0)
           ∙ s.settle.ensures.2
           ∙ steps.1,
     )

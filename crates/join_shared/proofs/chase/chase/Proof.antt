@@ -1,4 +1,4 @@
-use Rattle.join_shared.proofs.Chasing.{chase-four, chase-rests}
+use Rattle.join_shared.proofs.Chasing.{chase_four, chase_rests}
 use Rattle.join_shared.proofs.chase.chase.Statement.{statement}
 use Rattle.join_shared.proofs.chase.chase.Tie as tie
 
@@ -6,7 +6,7 @@ goes-on-requires : tie.Need-goes-on-requires
 goes-on-requires c κs = tt
 
 returns : tie.Need-returns
-returns c = chase-rests _ _ _ _ c.before.goes_on.ensures c.if1.true
+returns c = chase_rests _ _ _ _ c.before.goes_on.ensures c.if1.true
 
 goes-on-requires-2 : tie.Need-goes-on-requires-2
 goes-on-requires-2 c κs = tt
@@ -19,7 +19,7 @@ goes-on-requires-4 c κs = tt
 
 returns-2 : tie.Need-returns-2
 returns-2 c =
-    chase-four _ _ _ _ _ _ _ c.before.before.before.before.goes_on.ensures c.before.before.goes-on2.ensures
+    chase_four _ _ _ _ _ _ _ c.before.before.before.before.goes_on.ensures c.before.before.goes-on2.ensures
     c.before.goes-on3.ensures
     c.goes-on4.ensures
 

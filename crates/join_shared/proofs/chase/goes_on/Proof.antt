@@ -1,5 +1,5 @@
 use mathlib.Core.Path.{sym, ◌∙◌}
-use Rattle.join_shared.proofs.Chasing.{goes_on, leaps-not}
+use Rattle.join_shared.proofs.Chasing.{goes_on, leaps_not}
 use Rattle.join_shared.proofs.chase.goes_on.Statement.{statement}
 use Rattle.join_shared.proofs.chase.goes_on.Tie as tie
 
@@ -18,7 +18,7 @@ returns c =
     (sym c.before.before.before.is_shared.ensures ∙ c.before.before.if1.true)
 
 returns-2 : tie.Need-returns-2
-returns-2 c = leaps-not _ _ _ (sym c.before.is_shared.ensures ∙ c.if1.false)
+returns-2 c = leaps_not _ _ _ (sym c.before.is_shared.ensures ∙ c.if1.false)
 
 pub goes-on-spec : {M : Type 1} → statement M
 goes-on-spec =

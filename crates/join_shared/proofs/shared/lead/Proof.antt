@@ -6,8 +6,8 @@ use lib.ListN.{length}
 use Rattle.join_darts.specs.Links.{links}
 use Rattle.join_shared.specs.Led.{led}
 use Rattle.join_darts.specs.Listed.{Bounded}
-use Rattle.join_shared.proofs.Leading.{unlisted-led, led-same}
-use Rattle.join_shared.proofs.Treating.{Treated, treated-none, treated-more, treated-all}
+use Rattle.join_shared.proofs.Leading.{unlisted_led, led_same}
+use Rattle.join_shared.proofs.Treating.{Treated, treated_none, treated_more, treated_all}
 use Rattle.join_shared.proofs.shared.lead.Statement.{statement}
 use Rattle.join_shared.proofs.shared.lead.Tie as tie
 
@@ -25,7 +25,7 @@ cast-n c = omega (arith, c.before.before.before.before.requires.2)
 loop-holds : tie.Need-loop-init invariant-loop decreases-loop
 loop-holds c =
     let q = c.before.before.before.before.requires in
-    λ g. treated-none _ _ _ (λ d b e. unlisted-led _ _ _ _ _ q.0 q.1 (omega (arith, q.2, q.3)) q.6 _ _ _ g d e) _ _ g.list
+    λ g. treated_none _ _ _ (λ d b e. unlisted_led _ _ _ _ _ q.0 q.1 (omega (arith, q.2, q.3)) q.6 _ _ _ g d e) _ _ g.list
 
 led-requires : tie.Need-led-requires invariant-loop decreases-loop
 led-requires c κs = tt
@@ -67,9 +67,9 @@ loop-again c =
     let h = c.before.before.before.loop-test.true in
     λ g.
     let r = c.before.before.before.before.loop.invariant g in
-    treated-more _ _ _ (λ d b e. unlisted-led _ _ _ _ _ q.0 q.1 (omega (arith, q.2, q.3)) q.6 _ _ _ g d e) _ _
+    treated_more _ _ _ (λ d b e. unlisted_led _ _ _ _ _ q.0 q.1 (omega (arith, q.2, q.3)) q.6 _ _ _ g d e) _ _
     g.list _ _ _ r h
-    (c.before.led.ensures ∙ led-same _ _ _ _ _ q.0 q.1 (omega (arith, q.2, q.3)) q.6 _ _ r.half h)
+    (c.before.led.ensures ∙ led_same _ _ _ _ _ q.0 q.1 (omega (arith, q.2, q.3)) q.6 _ _ r.half h)
 
 same_length : tie.Need-same-length invariant-loop decreases-loop
 same_length c = (c.before.loop.invariant c.before.before.before.before.before.before.requires.5).half.long
@@ -77,7 +77,7 @@ same_length c = (c.before.loop.invariant c.before.before.before.before.before.be
 returns : tie.Need-returns invariant-loop decreases-loop
 returns c =
     let q = c.before.before.before.before.before.before.requires in
-    treated-all _ _ _ (λ d b e. unlisted-led _ _ _ _ _ q.0 q.1 (omega (arith, q.2, q.3)) q.6 _ _ _ q.5 d e) _ _
+    treated_all _ _ _ (λ d b e. unlisted_led _ _ _ _ _ q.0 q.1 (omega (arith, q.2, q.3)) q.6 _ _ _ q.5 d e) _ _
     (c.before.loop.invariant q.5) c.loop-test.false
 
 pub lead-spec : {M : Type 1} → statement M

@@ -1,6 +1,6 @@
 use mathlib.Core.Path.{sym, ◌∙◌}
 use native.Mathlib.Omega.{arith}
-use Rattle.join_shared.proofs.Leading.{led-bounded, removed-nexts}
+use Rattle.join_shared.proofs.Leading.{led_bounded, removed_nexts}
 use Rattle.join_shared.proofs.shared.remove_nexts.Statement.{statement}
 use Rattle.join_shared.proofs.shared.remove_nexts.Tie as tie
 
@@ -14,7 +14,7 @@ unlink-requires c κs =
     let d = c.before.before.before in
     let q = d.before.before.before.before.before.before.requires in
     let e = d.lead.auto.1.1.1.1.1.1.0 ∙ q.5 in
-    let g = led-bounded _ _ _ _ _ q.1 q.2 (omega (arith, q.0, q.3)) q.7 _ _ _ q.6 _ _ d.lead.ensures in
+    let g = led_bounded _ _ _ _ _ q.1 q.2 (omega (arith, q.0, q.3)) q.7 _ _ _ q.6 _ _ d.lead.ensures in
     (omega (arith, q.0, e), q.3 ∙ sym e, q.4 ∙ sym e, rw e g)
 
 same_length : tie.Need-same-length
@@ -28,7 +28,7 @@ returns c =
     let d = u.before.before.before.before in
     let q = d.before.before.before.before.before.before.requires in
     let e = d.lead.auto.1.1.1.1.1.1.0 ∙ q.5 in (
-      removed-nexts _ _ _ _ _ q.1 q.2 (omega (arith, q.0, q.3)) q.7 _ _ q.5 _ _ _ _ q.5 e d.lead.ensures
+      removed_nexts _ _ _ _ _ q.1 q.2 (omega (arith, q.0, q.3)) q.7 _ _ q.5 _ _ _ _ q.5 e d.lead.ensures
           u.unlink.ensures.0,
       rw e at u.unlink.ensures.1,
     )

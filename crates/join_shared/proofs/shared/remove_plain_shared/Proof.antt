@@ -1,9 +1,9 @@
 use mathlib.Core.Path.{◌∙◌}
 use borrow.Author.Rules.{rules}
-use Rattle.paper_laws.proofs.Marks.{within-fits}
+use Rattle.paper_laws.proofs.Marks.{within_fits}
 use Rattle.join_darts.specs.Listed.{bounds}
-use Rattle.join_darts.proofs.Listing.{bounded-all}
-use Rattle.join_shared.proofs.Counting.{shared-counted}
+use Rattle.join_darts.proofs.Listing.{bounded_all}
+use Rattle.join_shared.proofs.Counting.{shared_counted}
 use Rattle.join_shared.proofs.shared.remove_plain_shared.Statement.{statement}
 use Rattle.join_shared.proofs.shared.remove_plain_shared.Tie as tie
 
@@ -14,7 +14,7 @@ remove-nexts-requires : tie.Need-remove-nexts-requires
 remove-nexts-requires c κs =
     let d = c.before.before.before.before in
     let q = d.before.before.before.before.before.before.requires in
-    (within-fits _ _ q.0, q.1, q.2, q.3, q.4, q.5, bounded-all _ _ _ _ _ _ _ q.7, rw d.fill-reversals.ensures q.8)
+    (within_fits _ _ q.0, q.1, q.2, q.3, q.4, q.5, bounded_all _ _ _ _ _ _ _ q.7, rw d.fill-reversals.ensures q.8)
 
 same_length : tie.Need-same-length
 same_length c = c.before.before.remove-nexts.auto.1.1.1.1.1.1.1.1.0
@@ -28,7 +28,7 @@ returns c =
     let f = d.before.before.before.before.before in
     let q = f.before.before.before.before.before.before.requires in
     let r = rw f.fill-reversals.ensures at d.remove-nexts.ensures in
-    (r.0, r.1 (record { test = bounds _ _ _; list = q.7 }) ∙ shared-counted _ _ _ _ _)
+    (r.0, r.1 (record { test = bounds _ _ _; list = q.7 }) ∙ shared_counted _ _ _ _ _)
 
 pub remove-plain-shared-spec : {M : Type 1} → statement M
 remove-plain-shared-spec =

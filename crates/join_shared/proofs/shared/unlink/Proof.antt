@@ -5,9 +5,9 @@ use lib.ListN.{length}
 use Rattle.point_darts.specs.Dart.{mark}
 use Rattle.paper.specs.Joining.{at, shared}
 use Rattle.join_darts.specs.Listed.{Bounded, Chained}
-use Rattle.join_shared.proofs.Leading.{unlisted-keeps, link_here}
-use Rattle.join_shared.proofs.Treating.{Treated, treated-none, treated-more, treated-all, treated-here}
-use Rattle.join_shared.proofs.Counting.{Counted, counted_none, counted-more, boolByte-most, counted-most, counted-all}
+use Rattle.join_shared.proofs.Leading.{unlisted_keeps, link_here}
+use Rattle.join_shared.proofs.Treating.{Treated, treated_none, treated_more, treated_all, treated_here}
+use Rattle.join_shared.proofs.Counting.{Counted, counted_none, counted_more, bool_byte_most, counted_most, counted_all}
 use Rattle.join_shared.proofs.shared.unlink.Statement.{statement}
 use Rattle.join_shared.proofs.shared.unlink.Tie as tie
 
@@ -26,7 +26,7 @@ cast-n c = omega (arith, c.before.before.before.before.requires.0)
 
 loop-holds : tie.Need-loop-init invariant-loop decreases-loop
 loop-holds c = (
-  λ g. treated-none _ _ _ (λ d b e. unlisted-keeps _ _ _ _ _ _ _ _ g d e) _ _ g.list,
+  λ g. treated_none _ _ _ (λ d b e. unlisted_keeps _ _ _ _ _ _ _ _ g d e) _ _ g.list,
   λ g. counted_none _ _ _ _ _ g.list,
 )
 
@@ -73,7 +73,7 @@ add-gone c =
     let i = c.before.before.before in
     let q = i.before.before.before.before.before.before.requires in
     let r = i.before.loop.invariant.1 (record { test = q.3.test; list = q.3.list }) in
-    rw boolByte-most (omega (arith, q.0, counted-most _ _ _ _ _ r, i.loop-test.true))
+    rw bool_byte_most (omega (arith, q.0, counted_most _ _ _ _ _ r, i.loop-test.true))
 
 cast-dart : tie.Need-overflow-cast-dart invariant-loop decreases-loop
 cast-dart c = omega arith
@@ -104,10 +104,10 @@ loop-again c =
     let v = i.before.loop.invariant in
     let e = c.before.before.before.is_shared.ensures in (
       λ g.
-          treated-more _ _ _ (λ d b e. unlisted-keeps _ _ _ _ _ _ _ _ g d e) _ _ g.list _ _ _ (v.0 g) h
-          (link_here _ _ _ _ _ e (treated-here _ _ _ (λ d b e. unlisted-keeps _ _ _ _ _ _ _ _ g d e) _ _ (v.0 g) h)
+          treated_more _ _ _ (λ d b e. unlisted_keeps _ _ _ _ _ _ _ _ g d e) _ _ g.list _ _ _ (v.0 g) h
+          (link_here _ _ _ _ _ e (treated_here _ _ _ (λ d b e. unlisted_keeps _ _ _ _ _ _ _ _ g d e) _ _ (v.0 g) h)
           c.before.link_left.ensures),
-      λ g. counted-more _ _ _ _ _ g.list _ _ _ (v.1 g) h e,
+      λ g. counted_more _ _ _ _ _ g.list _ _ _ (v.1 g) h e,
     )
 
 same_length : tie.Need-same-length invariant-loop decreases-loop
@@ -117,8 +117,8 @@ returns : tie.Need-returns invariant-loop decreases-loop
 returns c =
     let g = c.before.before.before.before.before.before.requires.3 in
     let v = c.before.loop.invariant in (
-      treated-all _ _ _ (λ d b e. unlisted-keeps _ _ _ _ _ _ _ _ g d e) _ _ (v.0 g) c.loop-test.false,
-      λ g. counted-all _ _ _ _ _ (v.1 g) c.loop-test.false,
+      treated_all _ _ _ (λ d b e. unlisted_keeps _ _ _ _ _ _ _ _ g d e) _ _ (v.0 g) c.loop-test.false,
+      λ g. counted_all _ _ _ _ _ (v.1 g) c.loop-test.false,
     )
 
 pub unlink-spec : {M : Type 1} → statement M

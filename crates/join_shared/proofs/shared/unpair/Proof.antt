@@ -6,8 +6,8 @@ use lib.ListN.{length}
 use Rattle.point_darts.specs.Dart.{mark}
 use Rattle.paper.specs.Joining.{at, shared}
 use Rattle.join_darts.specs.Listed.{Bounded}
-use Rattle.join_shared.proofs.Leading.{unlisted-keeps, shared_same, link_here}
-use Rattle.join_shared.proofs.Treating.{Treated, treated-none, treated-more, treated-all, treated-here}
+use Rattle.join_shared.proofs.Leading.{unlisted_keeps, shared_same, link_here}
+use Rattle.join_shared.proofs.Treating.{Treated, treated_none, treated_more, treated_all, treated_here}
 use Rattle.join_shared.proofs.shared.unpair.Statement.{statement}
 use Rattle.join_shared.proofs.shared.unpair.Tie as tie
 
@@ -24,7 +24,7 @@ unfolding mark
 cast-n c = omega (arith, c.before.before.before.requires.0)
 
 loop-holds : tie.Need-loop-init invariant-loop decreases-loop
-loop-holds c = λ g. treated-none _ _ _ (λ d b e. unlisted-keeps _ _ _ _ _ _ _ _ g d e) _ _ g.list
+loop-holds c = λ g. treated_none _ _ _ (λ d b e. unlisted_keeps _ _ _ _ _ _ _ _ g d e) _ _ g.list
 
 is-shared-requires : tie.Need-is-shared-requires invariant-loop decreases-loop
 is-shared-requires c κs = tt
@@ -88,8 +88,8 @@ loop-again c =
     let h = i.loop-test.true in
     λ g.
     let r = i.before.loop.invariant g in
-    let e = treated-here _ _ _ (λ d b e. unlisted-keeps _ _ _ _ _ _ _ _ g d e) _ _ r h in
-    treated-more _ _ _ (λ d b e. unlisted-keeps _ _ _ _ _ _ _ _ g d e) _ _ g.list _ _ _ r h
+    let e = treated_here _ _ _ (λ d b e. unlisted_keeps _ _ _ _ _ _ _ _ g d e) _ _ r h in
+    treated_more _ _ _ (λ d b e. unlisted_keeps _ _ _ _ _ _ _ _ g d e) _ _ g.list _ _ _ r h
     (link_here _ _ _ _ _ (c.before.before.before.is_shared.ensures ∙ shared_same _ _ _ _ _ _ (omega (arith, r.half.long)) e) e
     c.before.link_left.ensures)
 
@@ -99,7 +99,7 @@ same_length c = (c.before.loop.invariant c.before.before.before.before.before.re
 returns : tie.Need-returns invariant-loop decreases-loop
 returns c =
     let g = c.before.before.before.before.before.requires.3 in
-    treated-all _ _ _ (λ d b e. unlisted-keeps _ _ _ _ _ _ _ _ g d e) _ _ (c.before.loop.invariant g) c.loop-test.false
+    treated_all _ _ _ (λ d b e. unlisted_keeps _ _ _ _ _ _ _ _ g d e) _ _ (c.before.loop.invariant g) c.loop-test.false
 
 pub unpair-spec : {M : Type 1} → statement M
 unpair-spec =

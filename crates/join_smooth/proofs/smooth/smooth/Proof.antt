@@ -3,20 +3,20 @@ use Prim.Native.Nat.{◌-◌, ◌<◌}
 use native.Mathlib.Omega.{arith}
 use lib.ListN.{get_or}
 use Rattle.point_darts.specs.Dart.{mark, slots}
-use Rattle.point_darts.proofs.Fit.{darts-fit, dart-fits}
-use Rattle.point_darts.proofs.Reach.{slot-point}
+use Rattle.point_darts.proofs.Fit.{darts_fit, dart_fits}
+use Rattle.point_darts.proofs.Reach.{slot_point}
 use Rattle.paper.specs.Joining.{smooth, smooths, smoothed}
 use Rattle.join_darts.specs.Links.{links}
 use Rattle.join_darts.specs.Visited.{Visited}
 use Rattle.join_darts.proofs.Going.{Going, going_start, going_on, going_less}
-use Rattle.join_smooth.proofs.Splicing.{smooths-none, smooths-more}
+use Rattle.join_smooth.proofs.Splicing.{smooths_none, smooths_more}
 use Rattle.join_smooth.proofs.smooth.smooth.Statement.{statement}
 use Rattle.join_smooth.proofs.smooth.smooth.Tie as tie
 
 abbrev invariant-loop : tie.invariant-loop
 invariant-loop width height first list point_table before next₀ other₀ n dart₀ next other dart =
     (g : Visited smooths smooth (links next₀ other₀) (slots width height) first list)
-    → Going smooths smooth smooths-none smooths-more width height (links next₀ other₀) first list g dart (links next other)
+    → Going smooths smooth smooths_none smooths_more width height (links next₀ other₀) first list g dart (links next other)
 
 abbrev decreases-loop : tie.decreases-loop
 decreases-loop width height first list point_table before next₀ other₀ n dart₀ next other dart = n - dart
@@ -59,7 +59,7 @@ smooth-point-requires : tie.Need-smooth-point-requires invariant-loop decreases-
 smooth-point-requires c κs =
     let i = visit c in
     let q = (start (counted i)).pre in
-    let (fit, below) = darts-fit _ _ q.0 _ refl _ (slot-point _ _ _ (inside i)) in
+    let (fit, below) = darts_fit _ _ q.0 _ refl _ (slot_point _ _ _ (inside i)) in
     rw c.point.ensures (q.1, fit, rw q.3 below, rw ((i.before.loop.inv q.5).nexts, q.4) below)
 
 cast-dart : tie.Need-overflow-cast-dart invariant-loop decreases-loop
@@ -69,7 +69,7 @@ mul-dart : tie.Need-overflow-mul-dart invariant-loop decreases-loop
 unfolding mark
 mul-dart c =
     let i = visit (treated c).before in
-    omega (arith, dart-fits _ _ (start (counted i)).pre.0 _ refl _ (inside i))
+    omega (arith, dart_fits _ _ (start (counted i)).pre.0 _ refl _ (inside i))
 
 shared-slice-read-dart : tie.Need-shared-slice-read-dart invariant-loop decreases-loop
 shared-slice-read-dart c =

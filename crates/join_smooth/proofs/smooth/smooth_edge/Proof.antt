@@ -1,5 +1,5 @@
 use mathlib.Core.Path.{◌∙◌, refl}
-use Rattle.join_smooth.proofs.Splicing.{links-path, splice-loop, splice-edges}
+use Rattle.join_smooth.proofs.Splicing.{links_path, splice_loop, splice_edges}
 use Rattle.join_smooth.proofs.smooth.smooth_edge.Statement.{statement}
 use Rattle.join_smooth.proofs.smooth.smooth_edge.Tie as tie
 
@@ -10,7 +10,7 @@ same_length : tie.Need-same-length
 same_length c = refl
 
 returns : tie.Need-returns
-returns c = splice-loop _ _ _ _ c.before.get.ensures c.if1.true
+returns c = splice_loop _ _ _ _ c.before.get.ensures c.if1.true
 
 get-requires-2 : tie.Need-get-requires-2
 get-requires-2 c κs = tt
@@ -34,8 +34,8 @@ returns-2 c =
     let c8 = c6.before.before in
     let c10 = c8.before.before in
     let c11 = c10.before in
-    links-path _ _ _ (c6.splice-next.ensures _) (c2.splice-other.ensures _)
-    ∙ splice-edges _ _ _ _ _ c11.get.ensures c10.if1.false c8.get2.ensures
+    links_path _ _ _ (c6.splice-next.ensures _) (c2.splice-other.ensures _)
+    ∙ splice_edges _ _ _ _ _ c11.get.ensures c10.if1.false c8.get2.ensures
 
 pub smooth-edge-spec : {M : Type 1} → statement M
 smooth-edge-spec =

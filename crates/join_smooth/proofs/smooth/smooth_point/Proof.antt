@@ -1,7 +1,7 @@
 use mathlib.Core.Path.{◌∙◌}
 use borrow.Author.Rules.{rules}
 use borrow.Author.Tests.{not-true, not-false}
-use Rattle.join_smooth.proofs.Splicing.{smooth-other, smooth-two}
+use Rattle.join_smooth.proofs.Splicing.{smooth_other, smooth_two}
 use Rattle.join_smooth.proofs.smooth.smooth_point.Statement.{statement}
 use Rattle.join_smooth.proofs.smooth.smooth_point.Tie as tie
 
@@ -20,7 +20,7 @@ same_length c = search rules
 returns : tie.Need-returns
 returns c =
     let t = c.before in
-    smooth-other _ _ _ t.before.before.mask.ensures.0 _ t.two.ensures (not-true _ c.if1.true)
+    smooth_other _ _ _ t.before.before.mask.ensures.0 _ t.two.ensures (not-true _ c.if1.true)
 
 seen-requires : tie.Need-seen-requires
 seen-requires c κs = search rules
@@ -40,7 +40,7 @@ returns-2 c =
     let s = e.before.before.before in
     let t = s.before.before in
     e.smooth-edge.ensures
-    ∙ smooth-two _ _ _ t.before.before.mask.ensures.0 _ t.two.ensures (not-false _ s.before.if1.false) _ _
+    ∙ smooth_two _ _ _ t.before.before.mask.ensures.0 _ t.two.ensures (not-false _ s.before.if1.false) _ _
     s.seen.ensures.0 s.seen.ensures.1
 
 pub smooth-point-spec : {M : Type 1} → statement M

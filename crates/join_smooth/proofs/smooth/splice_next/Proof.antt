@@ -1,6 +1,6 @@
 use mathlib.Core.Path.{◌∙◌}
 use Rattle.point_darts.specs.Dart.{mark}
-use Rattle.join_smooth.proofs.Splicing.{splice-nexts}
+use Rattle.join_smooth.proofs.Splicing.{splice_nexts}
 use Rattle.join_smooth.proofs.smooth.splice_next.Statement.{statement}
 use Rattle.join_smooth.proofs.smooth.splice_next.Tie as tie
 
@@ -30,7 +30,7 @@ returns c =
     let c8 = c6.before.before in
     let c10 = c8.before.before in
     λ o. c2.put-pair2.ensures
-    ∙ splice-nexts _ o _ _ _ _ _ _ _ c10.get.ensures c8.get2.ensures c6.put-pair.ensures
+    ∙ splice_nexts _ o _ _ _ _ _ _ _ c10.get.ensures c8.get2.ensures c6.put-pair.ensures
 
 pub splice-next-spec : {M : Type 1} → statement M
 splice-next-spec =

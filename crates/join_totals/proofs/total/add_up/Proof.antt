@@ -1,7 +1,7 @@
 use mathlib.Core.Path.{◌∙◌}
 use native.Mathlib.Omega.{arith}
 use Rattle.point_darts.specs.Dart.{mark}
-use Rattle.join_totals.proofs.Adding.{added-less, added_more}
+use Rattle.join_totals.proofs.Adding.{added_less, added_more}
 use borrow.Author.Rules.{rules}
 use Rattle.join_totals.proofs.total.add_up.Statement.{statement}
 use Rattle.join_totals.proofs.total.add_up.Tie as tie
@@ -35,7 +35,7 @@ unfolding mark
 returns c =
     let g = c.before.before.before.before.before in
     c.before.before.put-pair.ensures
-    ∙ rw (g.get2.ensures, g.before.before.get.ensures) (added-less _ _ _ _ c.before.before.before.before.if1.true)
+    ∙ rw (g.get2.ensures, g.before.before.get.ensures) (added_less _ _ _ _ c.before.before.before.before.if1.true)
 
 same-length-2 : tie.Need-same-length-2
 same-length-2 c = search rules

@@ -1,6 +1,6 @@
 use mathlib.Core.Path.{sym, ◌∙◌}
-use Rattle.level_call.proofs.Paper.{runs-level}
-use Rattle.level_call.proofs.Tables.{along-tables}
+use Rattle.level_call.proofs.Paper.{runs_level}
+use Rattle.level_call.proofs.Tables.{along_tables_lem}
 use Rattle.level_call.proofs.along.along.Statement.{statement}
 use Rattle.level_call.proofs.along.along.Tie as tie
 
@@ -60,7 +60,7 @@ links-requires c κs =
       s.8,
       l.nexts.kept.1.1.1.0 ∙ s.4,
       e.keep-points.auto.1.1.1.1.1.1.0 ∙ s.6,
-      runs-level _ _ _ _ _ _ _ _ s.0 s.10 m.masks.ensures l.nexts.ensures k.sides.ensures
+      runs_level _ _ _ _ _ _ _ _ s.0 s.10 m.masks.ensures l.nexts.ensures k.sides.ensures
           e.keep-points.ensures,
     )
 
@@ -118,7 +118,7 @@ returns c =
     let l = linked k in
     let m = masked l in
     let z = start m in
-    along-tables _ _ _ _ _ _ l.nexts.ensures k.sides.ensures _ _ _ _ _ z.pre.1 z.pre.2 m.masks.ensures
+    along_tables_lem _ _ _ _ _ _ l.nexts.ensures k.sides.ensures _ _ _ _ _ z.pre.1 z.pre.2 m.masks.ensures
     q.keep-points.ensures p.links.ensures.0 p.links.ensures.1 e.trim.ensures
 
 pub along-spec : {M : Type 1} → statement M

@@ -1,9 +1,9 @@
 use mathlib.Core.Path.{sym, ap, ◌∙◌}
 use borrow.Author.Rules.{rules}
-use Rattle.table_entries.proofs.Front.{front-in, front_long, front-back, back_in, back_long}
-use Rattle.region_names.proofs.Room.{points-part}
+use Rattle.table_entries.proofs.Front.{front_in, front_long, front_back, back_in, back_long}
+use Rattle.region_names.proofs.Room.{points_part}
 use Rattle.level_kept.specs.Keep.{keeps}
-use Rattle.region_parents.proofs.Rise.{tops-rising}
+use Rattle.region_parents.proofs.Rise.{tops_rising}
 use Rattle.level_call.proofs.along.keep_anchors.Statement.{statement}
 use Rattle.level_call.proofs.along.keep_anchors.Tie as tie
 
@@ -23,7 +23,7 @@ slice-relend-prefix-top-points c =
     let s = start p in
     let a = s.args in
     let e = p.points.ensures in
-    front-in _ _ a.scratch.now s.pre.3 (points-part _ _ _ e)
+    front_in _ _ a.scratch.now s.pre.3 (points_part _ _ _ e)
 
 slice-aggregate-top-points : tie.Need-slice-aggregate-top-points
 slice-aggregate-top-points c =
@@ -31,7 +31,7 @@ slice-aggregate-top-points c =
     let s = start p in
     let a = s.args in
     let e = p.points.ensures in
-    sym (front_long _ _ a.scratch.now s.pre.3 (points-part _ _ _ e))
+    sym (front_long _ _ a.scratch.now s.pre.3 (points_part _ _ _ e))
 
 top-points-requires : tie.Need-top-points-requires
 top-points-requires c κs =
@@ -39,7 +39,7 @@ top-points-requires c κs =
     let s = start p in
     let a = s.args in
     let e = p.points.ensures in
-    (s.pre.0, s.pre.1, front_long _ _ a.scratch.now s.pre.3 (points-part _ _ _ e) ∙ e)
+    (s.pre.0, s.pre.1, front_long _ _ a.scratch.now s.pre.3 (points_part _ _ _ e) ∙ e)
 
 slice-reshare-prefix-keeps : tie.Need-slice-reshare-prefix-keeps
 slice-reshare-prefix-keeps c =
@@ -49,7 +49,7 @@ slice-reshare-prefix-keeps c =
     let s = start p in
     let a = s.args in
     let e = p.points.ensures in
-    back_in _ _ a.scratch.now s.pre.3 (points-part _ _ _ e) t.new.1.1.1.0 t.auto.1.1.1.0
+    back_in _ _ a.scratch.now s.pre.3 (points_part _ _ _ e) t.new.1.1.1.0 t.auto.1.1.1.0
 
 slice-aggregate-keeps : tie.Need-slice-aggregate-keeps
 slice-aggregate-keeps c =
@@ -59,7 +59,7 @@ slice-aggregate-keeps c =
     let s = start p in
     let a = s.args in
     let e = p.points.ensures in
-    sym (back_long _ _ a.scratch.now s.pre.3 (points-part _ _ _ e) t.new.1.1.1.0 t.auto.1.1.1.0)
+    sym (back_long _ _ a.scratch.now s.pre.3 (points_part _ _ _ e) t.new.1.1.1.0 t.auto.1.1.1.0)
 
 keeps-requires : tie.Need-keeps-requires
 keeps-requires c κs =
@@ -69,9 +69,9 @@ keeps-requires c κs =
     let s = start p in
     let a = s.args in
     let e = p.points.ensures in
-    let l = back_long _ _ a.scratch.now s.pre.3 (points-part _ _ _ e) t.new.1.1.1.0 t.auto.1.1.1.0 in
-    let f = front-back _ _ a.scratch.now s.pre.3 (points-part _ _ _ e) t.new.1.1.1.0 t.auto.1.1.1.0 in
-    (s.pre.0, s.pre.2, l ∙ e, s.pre.4, tops-rising _ _ _ _ (f ∙ t.ensures))
+    let l = back_long _ _ a.scratch.now s.pre.3 (points_part _ _ _ e) t.new.1.1.1.0 t.auto.1.1.1.0 in
+    let f = front_back _ _ a.scratch.now s.pre.3 (points_part _ _ _ e) t.new.1.1.1.0 t.auto.1.1.1.0 in
+    (s.pre.0, s.pre.2, l ∙ e, s.pre.4, tops_rising _ _ _ _ (f ∙ t.ensures))
 
 same_length : tie.Need-same-length
 same_length c = search rules
@@ -87,7 +87,7 @@ returns c =
     let s = start p in
     let a = s.args in
     let e = p.points.ensures in
-    let f = front-back _ _ a.scratch.now s.pre.3 (points-part _ _ _ e) t.new.1.1.1.0 t.auto.1.1.1.0 in
+    let f = front_back _ _ a.scratch.now s.pre.3 (points_part _ _ _ e) t.new.1.1.1.0 t.auto.1.1.1.0 in
     c.before.before.keeps.ensures ∙ ap (keeps a.width a.height a.masks.now) (f ∙ t.ensures)
 
 pub keep-anchors-spec : {M : Type 1} → statement M

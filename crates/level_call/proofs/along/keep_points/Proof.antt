@@ -1,4 +1,4 @@
-use Rattle.level_call.proofs.Tables.{bends-points, keeps-points}
+use Rattle.level_call.proofs.Tables.{bends_points, keeps_points}
 use Rattle.level_call.proofs.along.keep_points.Statement.{statement}
 use Rattle.level_call.proofs.along.keep_points.Tie as tie
 
@@ -9,7 +9,7 @@ same_length : tie.Need-same-length
 same_length c = c.before.before.bends.auto.1.1.1.0
 
 returns : tie.Need-returns
-returns c = bends-points _ _ _ _ _ _ c.before.before.before.before.if1.true c.before.before.bends.ensures
+returns c = bends_points _ _ _ _ _ _ c.before.before.before.before.if1.true c.before.before.bends.ensures
 
 keep-anchors-requires : tie.Need-keep-anchors-requires
 keep-anchors-requires c κs = c.before.before.before.before.before.before.before.requires
@@ -23,7 +23,7 @@ same-length-3 c = c.before.before.before.before.keep-anchors.auto.1.1.1.1.1.0
 returns-2 : tie.Need-returns-2
 returns-2 c =
     let e = c.before.before.before.before in
-    keeps-points _ _ _ _ _ _ e.before.before.before.if1.false e.keep-anchors.ensures
+    keeps_points _ _ _ _ _ _ e.before.before.before.if1.false e.keep-anchors.ensures
 
 pub keep-points-spec : {M : Type 1} → statement M
 keep-points-spec =

@@ -4,9 +4,9 @@ use lib.ListN.{take}
 use lib.Seq.{length-take-le, length_front}
 use native.Mathlib.Omega.{arith}
 use borrow.Author.Rules.{rules}
-use Rattle.table_entries.proofs.Cleared.{cleared-same}
-use Rattle.region_names.proofs.Room.{points-part, surround-part}
-use Rattle.level_call.proofs.Tables.{filled-tables}
+use Rattle.table_entries.proofs.Cleared.{cleared_same}
+use Rattle.region_names.proofs.Room.{points_part, surround_part}
+use Rattle.level_call.proofs.Tables.{filled_tables}
 use Rattle.level_call.proofs.fill.fill.Statement.{statement}
 use Rattle.level_call.proofs.fill.fill.Tie as tie
 
@@ -48,34 +48,34 @@ slice-reshare-prefix-numbered c =
     let n = c.before.before.before.before in
     let s = start (sized n) in
     let m = n.name-cells.auto.1.1.1.1.0 in
-    omega (arith, s.pre.7, m, surround-part _ _ _ (sized n).points.ensures)
+    omega (arith, s.pre.7, m, surround_part _ _ _ (sized n).points.ensures)
 
 slice-aggregate-numbered : tie.Need-slice-aggregate-numbered
 slice-aggregate-numbered c =
     let n = c.before.before.before.before.before in
     let s = start (sized n) in
     let m = n.name-cells.auto.1.1.1.1.0 in
-    sym (length-take-le _ _ (omega (arith, s.pre.7, m, surround-part _ _ _ (sized n).points.ensures)))
+    sym (length-take-le _ _ (omega (arith, s.pre.7, m, surround_part _ _ _ (sized n).points.ensures)))
 
 slice-relend-prefix-numbered : tie.Need-slice-relend-prefix-numbered
 slice-relend-prefix-numbered c =
     let p = sized c.before.before.before.before.before.before in
-    omega (arith, (start p).pre.8, points-part _ _ _ p.points.ensures)
+    omega (arith, (start p).pre.8, points_part _ _ _ p.points.ensures)
 
 slice-aggregate-numbered-2 : tie.Need-slice-aggregate-numbered-2
 slice-aggregate-numbered-2 c =
     let p = sized c.before.before.before.before.before.before.before in
-    sym (length-take-le _ _ (omega (arith, (start p).pre.8, points-part _ _ _ p.points.ensures)))
+    sym (length-take-le _ _ (omega (arith, (start p).pre.8, points_part _ _ _ p.points.ensures)))
 
 slice-relend-prefix-numbered-2 : tie.Need-slice-relend-prefix-numbered-2
 slice-relend-prefix-numbered-2 c =
     let p = sized c.before.before.before.before.before.before.before in
-    omega (arith, (start p).pre.9, points-part _ _ _ p.points.ensures)
+    omega (arith, (start p).pre.9, points_part _ _ _ p.points.ensures)
 
 slice-aggregate-numbered-3 : tie.Need-slice-aggregate-numbered-3
 slice-aggregate-numbered-3 c =
     let p = sized c.before.before.before.before.before.before.before.before in
-    sym (length-take-le _ _ (omega (arith, (start p).pre.9, points-part _ _ _ p.points.ensures)))
+    sym (length-take-le _ _ (omega (arith, (start p).pre.9, points_part _ _ _ p.points.ensures)))
 
 numbered-requires : tie.Need-numbered-requires
 numbered-requires c κs =
@@ -87,10 +87,10 @@ numbered-requires c κs =
     let e = p.points.ensures in (
       q.0,
       q.1,
-      length-take-le _ _ (omega (arith, q.7, k.1.0, surround-part _ _ _ e)) ∙ ap (λ m. m + (start p).args.width + 2) e,
+      length-take-le _ _ (omega (arith, q.7, k.1.0, surround_part _ _ _ e)) ∙ ap (λ m. m + (start p).args.width + 2) e,
       k.0 ∙ q.6,
-      length-take-le _ _ (omega (arith, q.8, points-part _ _ _ e)) ∙ e,
-      length-take-le _ _ (omega (arith, q.9, points-part _ _ _ e)) ∙ e,
+      length-take-le _ _ (omega (arith, q.8, points_part _ _ _ e)) ∙ e,
+      length-take-le _ _ (omega (arith, q.9, points_part _ _ _ e)) ∙ e,
       q.3,
       q.4,
       q.5,
@@ -149,11 +149,11 @@ returns c =
     let k = d.numbered.kept.1.1.1.1 in
     let l = d.numbered.last.1.1.1.1 in
     let m = n.name-cells.kept.1.1.1 in (
-      filled-tables a.width a.height a.level a.sheet.now _ _ s.pre.0
+      filled_tables a.width a.height a.level a.sheet.now _ _ s.pre.0
           (ap (λ i. take (i + a.width + 2) n.name-cells.last.1.1.1.1.0) p.points.ensures ∙ n.name-cells.ensures)
           d.numbered.ensures,
       c.before.before.before.before.before.before.before.before.clear-four.ensures
-          ∙ cleared-same _ _ _ _ a.a.now a.b.now a.c.now a.d.now (k.0 ∙ m.0) m.1.0
+          ∙ cleared_same _ _ _ _ a.a.now a.b.now a.c.now a.d.now (k.0 ∙ m.0) m.1.0
           (length_front a.c.now l.1.0 p.points.result k.1.0)
           (length_front a.d.now l.1.1.0 p.points.result k.1.1.0),
     )

@@ -1,5 +1,5 @@
 use mathlib.Core.Path.{◌∙◌}
-use Rattle.level_call.proofs.Tables.{plain-tables}
+use Rattle.level_call.proofs.Tables.{plain_tables_lem}
 use Rattle.level_call.proofs.plain.plain.Statement.{statement}
 use Rattle.level_call.proofs.plain.plain.Tie as tie
 
@@ -65,7 +65,7 @@ returns c =
     let q = linked p in
     let k = drafted q in
     let z = start k in
-    plain-tables _ _ _ _ _ _ q.nexts.ensures e.sides.ensures _ _ z.pre.1 k.draft.ensures p.others.ensures
+    plain_tables_lem _ _ _ _ _ _ q.nexts.ensures e.sides.ensures _ _ z.pre.1 k.draft.ensures p.others.ensures
 
 pub plain-spec : {M : Type 1} → statement M
 plain-spec =

@@ -4,8 +4,8 @@ use native.Mathlib.Omega.{arith}
 use borrow.Author.Rules.{rules}
 use Rattle.paper.specs.Joining.{at, on}
 use Rattle.table_entries.proofs.Entries.{at_in, on_below}
-use Rattle.level_curves.proofs.Linking.{after_on, after-below, after-point}
-use Rattle.level_curves.proofs.Running.{Running, running_none, running-stop, running_more, running-out}
+use Rattle.level_curves.proofs.Linking.{after_on, after_below, after_point}
+use Rattle.level_curves.proofs.Running.{Running, running_none, running_stop, running_more, running_out}
 use Rattle.level_curves.proofs.link.last.Statement.{statement}
 use Rattle.level_curves.proofs.link.last.Tie as tie
 
@@ -48,7 +48,7 @@ shared-slice-read-if1 c =
     let t = c.before.before.before in
     let s = start t in
     let i = t.loop.invariant in
-    rw c.before.point.ensures (after-point _ s.pre.0 _ _ i.1 i.0.after s.args.kept.now s.pre.1)
+    rw c.before.point.ensures (after_point _ s.pre.0 _ _ i.1 i.0.after s.args.kept.now s.pre.1)
 
 returns : tie.Need-returns invariant-loop decreases-loop
 returns c =
@@ -56,23 +56,23 @@ returns c =
     let s = start t in
     let i = t.loop.invariant in
     let p = c.before.before.point.ensures in
-    let b = after-point _ s.pre.0 _ _ i.1 i.0.after s.args.kept.now s.pre.1 in
-    running-stop _ _ _ _ _ _ _ i.0 _ (at_in _ _ (rw p b) ∙ ap (at _) p) c.if1.true
+    let b = after_point _ s.pre.0 _ _ i.1 i.0.after s.args.kept.now s.pre.1 in
+    running_stop _ _ _ _ _ _ _ i.0 _ (at_in _ _ (rw p b) ∙ ap (at _) p) c.if1.true
 
 cast-past : tie.Need-overflow-cast-past invariant-loop decreases-loop
 cast-past c =
     let i = (turn c).loop.invariant in
-    omega (arith, after-below _ (start (turn c)).pre.0 _ _ i.1 i.0.after)
+    omega (arith, after_below _ (start (turn c)).pre.0 _ _ i.1 i.0.after)
 
 mul-past : tie.Need-overflow-mul-past invariant-loop decreases-loop
 mul-past c =
     let i = (turn c).loop.invariant in
-    omega (arith, after-below _ (start (turn c)).pre.0 _ _ i.1 i.0.after)
+    omega (arith, after_below _ (start (turn c)).pre.0 _ _ i.1 i.0.after)
 
 shared-slice-read-past : tie.Need-shared-slice-read-past invariant-loop decreases-loop
 shared-slice-read-past c =
     let t = turn c.before in
-    after-below _ (start t).pre.0 _ _ t.loop.inv.1 t.loop.inv.0.after
+    after_below _ (start t).pre.0 _ _ t.loop.inv.1 t.loop.inv.0.after
 
 sub-left : tie.Need-overflow-sub-left invariant-loop decreases-loop
 sub-left c = omega arith
@@ -87,7 +87,7 @@ loop-again c =
     let s = start t in
     let i = t.loop.inv in
     let p = e.before.before.point.ensures in
-    let b = after-point _ s.pre.0 _ _ i.1 i.0.after s.args.kept.now s.pre.1 in
+    let b = after_point _ s.pre.0 _ _ i.1 i.0.after s.args.kept.now s.pre.1 in
     let f = after_on _ s.pre.0 _ _ i.1 i.0.after in (
       running_more _ _ _ _ _ _ _ i.0 _ _ e.before.before.before.loop-test.true (at_in _ _ (rw p b) ∙ ap (at _) p)
           e.if1.false (at_in _ _ (on_below _ _ f)),
@@ -95,7 +95,7 @@ loop-again c =
     )
 
 returns-2 : tie.Need-returns-2 invariant-loop decreases-loop
-returns-2 c = running-out _ _ _ _ _ _ _ c.before.loop.invariant.0 c.loop-test.false
+returns-2 c = running_out _ _ _ _ _ _ _ c.before.loop.invariant.0 c.loop-test.false
 
 pub last-spec : {M : Type 1} → statement M
 last-spec =

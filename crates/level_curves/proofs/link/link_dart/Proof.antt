@@ -2,7 +2,7 @@ use mathlib.Core.Path.{sym, ◌∙◌}
 use native.Mathlib.Omega.{arith}
 use borrow.Author.Rules.{rules}
 use Rattle.point_darts.specs.Dart.{mark}
-use Rattle.level_curves.proofs.Linking.{next-read, next-point, next-starts, off-start, linking-skip, linking-near}
+use Rattle.level_curves.proofs.Linking.{next_read, next_point, next_starts, off_start, linking_skip, linking_near}
 use Rattle.level_curves.proofs.link.link_dart.Statement.{statement}
 use Rattle.level_curves.proofs.link.link_dart.Tie as tie
 
@@ -26,7 +26,7 @@ returns : tie.Need-returns
 unfolding mark
 returns c =
     let q = c.before.before.before.before.before.before.requires in
-    linking-skip q.0 (off-start _ _ _ (sym (next-read q.0 q.1) ∙ c.if1.true))
+    linking_skip q.0 (off_start _ _ _ (sym (next_read q.0 q.1) ∙ c.if1.true))
 
 point-requires : tie.Need-point-requires
 point-requires c κs = search rules
@@ -42,7 +42,7 @@ unfolding mark
 shared-slice-read-if2 c =
     let e = c.before.before in
     let q = (start e).requires in
-    rw c.before.point.ensures (next-point q.0 q.1 e.if1.false)
+    rw c.before.point.ensures (next_point q.0 q.1 e.if1.false)
 
 mul_next : tie.Need-overflow-mul-next
 mul_next c = omega arith
@@ -71,14 +71,14 @@ returns-2 c =
     let t = c.before in
     let e = present t in
     let q = (start e).pre in
-    linking-near q.0 q.1 e.if1.left _ _ q.2 t.before.before.point.ensures t.if2.true c.reversal.ensures
+    linking_near q.0 q.1 e.if1.left _ _ q.2 t.before.before.point.ensures t.if2.true c.reversal.ensures
 
 link-run-requires : tie.Need-link-run-requires
 unfolding mark
 link-run-requires c κs =
     let e = present-on c.before.before in
     let q = (start e).pre in
-    (q.0, q.1, next-starts q.0 q.1 e.if1.left q.2)
+    (q.0, q.1, next_starts q.0 q.1 e.if1.left q.2)
 
 same-length-3 : tie.Need-same-length-3
 same-length-3 c = search rules

@@ -7,7 +7,7 @@ use Rattle.point_darts.specs.Dart.{mark}
 use Rattle.paper.specs.Joining.{at, on}
 use Rattle.table_entries.proofs.Entries.{at_in}
 use Rattle.level_curves.specs.Link.{starts}
-use Rattle.level_curves.proofs.Linking.{linking-done, linking-both, links-found, end_below}
+use Rattle.level_curves.proofs.Linking.{linking_done, linking_both, links_found, end_below}
 use Rattle.level_curves.proofs.link.link_run.Statement.{statement}
 use Rattle.level_curves.proofs.link.link_run.Tie as tie
 
@@ -28,7 +28,7 @@ returns : tie.Need-returns
 unfolding mark
 returns c =
     let q = c.before.before.before.before.before.before.requires in
-    linking-done q.0 (λ e. c.if1.true (at_in _ _ (omega (arith, q.1, q.0.others)) ∙ e))
+    linking_done q.0 (λ e. c.if1.true (at_in _ _ (omega (arith, q.1, q.0.others)) ∙ e))
 
 last-requires : tie.Need-last-requires
 unfolding starts
@@ -67,7 +67,7 @@ slice-write-next-2 : tie.Need-slice-write-next-2
 slice-write-next-2 c =
     let q = (start (run c)).requires in
     let l = (run c).last.ensures in
-    let e = (links-found _ _ _ _ q.2 _ _ _ l.0 l.1 c.before.before.reversal.ensures).1 in
+    let e = (links_found _ _ _ _ q.2 _ _ _ l.0 l.1 c.before.before.reversal.ensures).1 in
     rw length-set (omega (arith, e, end_below q.0 q.1 q.2, q.0.nexts))
 
 cast-other : tie.Need-overflow-cast-other
@@ -80,7 +80,7 @@ slice-write-other-2 : tie.Need-slice-write-other-2
 slice-write-other-2 c =
     let q = (start (run c)).requires in
     let l = (run c).last.ensures in
-    let e = (links-found _ _ _ _ q.2 _ _ _ l.0 l.1 c.before.before.reversal.ensures).1 in
+    let e = (links_found _ _ _ _ q.2 _ _ _ l.0 l.1 c.before.before.reversal.ensures).1 in
     rw length-set (omega (arith, e, end_below q.0 q.1 q.2, q.0.others))
 
 same_length : tie.Need-same-length
@@ -93,8 +93,8 @@ returns-2 : tie.Need-returns-2
 returns-2 c =
     let q = (start (run c)).requires in
     let l = (run c).last.ensures in
-    let f = links-found _ _ _ _ q.2 _ _ _ l.0 l.1 c.before.before.reversal.ensures in
-    linking-both q.0 _ _ _ q.1 q.2 f.0 f.1 (c.get.ensures ∙ ap (at _) c.before.back.ensures)
+    let f = links_found _ _ _ _ q.2 _ _ _ l.0 l.1 c.before.before.reversal.ensures in
+    linking_both q.0 _ _ _ q.1 q.2 f.0 f.1 (c.get.ensures ∙ ap (at _) c.before.back.ensures)
 
 pub link-run-spec : {M : Type 1} → statement M
 link-run-spec =

@@ -4,7 +4,7 @@ use native.Mathlib.Omega.{arith}
 use borrow.Author.Rules.{rules}
 use Rattle.point_darts.specs.Dart.{mark, slots, dart}
 use Rattle.level_curves.specs.Link.{Linking}
-use Rattle.level_curves.proofs.Linking.{linking-none, linking-all}
+use Rattle.level_curves.proofs.Linking.{linking_none, linking_all}
 use Rattle.level_curves.proofs.link.links.Statement.{statement}
 use Rattle.level_curves.proofs.link.links.Tie as tie
 
@@ -46,7 +46,7 @@ loop-holds c =
     let n = counted (filled f) in
     let a = start n.before in
     let q = a.pre in
-    linking-none _ _ _ _ _ n.before.slots.ensures a.args.next.now a.args.other.now q.0 q.3 q.4 q.5
+    linking_none _ _ _ _ _ n.before.slots.ensures a.args.next.now a.args.other.now q.0 q.3 q.4 q.5
     q.1 q.2 (filled f).fill.ensures f.fill2.ensures
 
 link-point-requires : tie.Need-link-point-requires invariant-loop decreases-loop
@@ -79,7 +79,7 @@ unfolding dart slots
 returns c =
     let n = counted (filled (blank c.before)) in
     let e = n.before.slots.ensures in
-    linking-all _ _ _ _ _ e c.before.loop.invariant (omega (arith, c.loop-test.false, e, n.points.ensures))
+    linking_all _ _ _ _ _ e c.before.loop.invariant (omega (arith, c.loop-test.false, e, n.points.ensures))
 
 pub links-spec : {M : Type 1} → statement M
 links-spec =

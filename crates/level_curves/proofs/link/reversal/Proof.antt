@@ -1,7 +1,7 @@
 use native.Mathlib.Omega.{arith}
 use borrow.Author.Rules.{rules}
 use Rattle.point_darts.specs.Dart.{mark, dart, point}
-use Rattle.point_darts.proofs.Darts.{direction-below, turned-below}
+use Rattle.point_darts.proofs.Darts.{direction_below, turned_below}
 use Rattle.level_curves.proofs.link.reversal.Statement.{statement}
 use Rattle.level_curves.proofs.link.reversal.Tie as tie
 
@@ -12,12 +12,12 @@ direction-requires : tie.Need-direction-requires
 direction-requires c κs = search rules
 
 opposite-requires : tie.Need-opposite-requires
-opposite-requires c κs = rw c.direction.ensures (direction-below _)
+opposite-requires c κs = rw c.direction.ensures (direction_below _)
 
 leaving-requires : tie.Need-leaving-requires
 unfolding mark dart point
 leaving-requires c κs =
-    omega (arith, c.before.before.point.ensures, c.opposite.ensures, turned-below c.before.direction.result 2)
+    omega (arith, c.before.before.point.ensures, c.opposite.ensures, turned_below c.before.direction.result 2)
 
 returns : tie.Need-returns
 returns c = rw (

@@ -1,5 +1,5 @@
 use Rattle.table_entries.proofs.Entries.{at_entry}
-use Rattle.level_kept.proofs.Flags.{bend-entry}
+use Rattle.level_kept.proofs.Flags.{bend_entry}
 use mathlib.Core.Path.{refl, sym, ◌∙◌, ap}
 use Prim.Native.Nat.{◌-◌}
 use Rattle.level_kept.specs.Keep.{large, kind_at, bends}
@@ -8,7 +8,7 @@ use mathlib.Core.Bool.{◌||◌}
 use Rattle.laws.specs.Table.{number, table}
 use borrow.Author.Rules.{rules}
 use native.Mathlib.Omega.{arith}
-use Rattle.table_entries.proofs.Filled.{Filled, filled_none, filled_more, filled-all}
+use Rattle.table_entries.proofs.Filled.{Filled, filled_none, filled_more, filled_all}
 use Rattle.level_kept.proofs.keep.bends.Statement.{statement}
 use Rattle.level_kept.proofs.keep.bends.Tie as tie
 
@@ -56,7 +56,7 @@ loop-again : tie.Need-loop-preserved invariant-loop decreases-loop
 loop-again c =
     let s = c.before.before.before.before.before.before.before.before in
     let b = c.before.before.before.loop-test.true in
-    filled_more _ _ _ _ _ c.before.before.before.before.loop.invariant _ b (bend-entry _ s.args.masks.now _ _
+    filled_more _ _ _ _ _ c.before.before.before.before.loop.invariant _ b (bend_entry _ s.args.masks.now _ _
     _ c.before.before.before.before.before.kinds.ensures (sym (at_entry s.args.masks.now _ (omega
     (arith, s.requires.0, s.requires.1, b)))) c.bend.ensures)
 
@@ -67,7 +67,7 @@ returns : tie.Need-returns invariant-loop decreases-loop
 unfolding bends
 returns c =
     let m = c.before.before.before.before.before.args.masks.now in
-    filled-all _ _ _ _ _ c.before.loop.invariant c.loop-test.false ∙ ap (λ k. table k (λ p. number (large m p ||
+    filled_all _ _ _ _ _ c.before.loop.invariant c.loop-test.false ∙ ap (λ k. table k (λ p. number (large m p ||
     eqb (kind_at m p) 2))) c.before.before.before.before.before.requires.1
 
 pub bends-spec : {M : Type 1} → statement M

@@ -5,9 +5,9 @@ use native.Mathlib.Omega.{arith}
 use lib.ListN.{length, get_or, set}
 use borrow.Author.Rules.{rules}
 use Rattle.laws.specs.Table.{table, number}
-use Rattle.laws.proofs.Count.{number-below}
+use Rattle.laws.proofs.Count.{number_below}
 use Rattle.level_kept.specs.Keep.{large}
-use Rattle.level_kept.proofs.Flags.{flags, flags-none, flags_long, flag-own, flags-next}
+use Rattle.level_kept.proofs.Flags.{flags, flags_none, flags_long, flag_own, flags_next}
 use Rattle.level_kept.proofs.keep.flag.Statement.{statement}
 use Rattle.level_kept.proofs.keep.flag.Tie as tie
 
@@ -40,13 +40,13 @@ module _ (c : tie.After-larges invariant-loop decreases-loop) where
 
   first : c.larges.new.1.0 ≡ below 0
   first =
-      c.larges.ensures ∙ ap (λ n. table n (λ p. number (large masks p))) (sym (start c).requires.1) ∙ flags-none _ _ _
+      c.larges.ensures ∙ ap (λ n. table n (λ p. number (large masks p))) (sym (start c).requires.1) ∙ flags_none _ _ _
 
   long : (k : List ℕ) (i : ℕ) → k ≡ below i → length k ≡ length tops
   long k i f = ap length f ∙ flags_long (length tops) masks tops i
 
   own : (k : List ℕ) (i p : ℕ) → k ≡ below i → i ≤ p → p < length tops → get_or k p 0 ≡ number (large masks p)
-  own = flag-own (length tops) masks tops (start c).requires.2 refl
+  own = flag_own (length tops) masks tops (start c).requires.2 refl
 
   last : (k : List ℕ) (i : ℕ) → k ≡ below i → i ≡ length tops → k ≡ flags size masks tops size
   last k i f e = f ∙ ap below e ∙ ap (λ n. flags n masks tops n) (start c).requires.1
@@ -62,13 +62,13 @@ module _ (c : tie.At-loop invariant-loop decreases-loop) where
   ready : (i < length (tops (larged c))) × (i < length c.loop.auto) × (get_or (tops (larged c)) i 0 ≤ i) × (v ≤ 1)
   ready =
       let a = larged c in
-      omega (arith, long a _ i c.loop.invariant.0, (start a).pre.2.up i, number-below (large (masks a) i), c.loop.invariant)
+      omega (arith, long a _ i c.loop.invariant.0, (start a).pre.2.up i, number_below (large (masks a) i), c.loop.invariant)
 
   raised : (k : List ℕ) → k ≡ set c.loop.auto (i - (i - get_or (tops (larged c)) i 0) * v) v → k ≡ below (larged c) (i + 1)
   raised k e =
       let a = larged c in
       let f = c.loop.invariant in
-      e ∙ flags-next (length (tops a)) (masks a) (tops a) (start a).pre.2 refl i f.2 _ _ _ f.0 f.1 refl
+      e ∙ flags_next (length (tops a)) (masks a) (tops a) (start a).pre.2 refl i f.2 _ _ _ f.0 f.1 refl
 
 larges-requires : tie.Need-larges-requires invariant-loop decreases-loop
 larges-requires c κs = search rules

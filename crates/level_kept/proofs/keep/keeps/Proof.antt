@@ -1,6 +1,6 @@
 use mathlib.Core.Path.{sym, ap, ◌∙◌}
 use borrow.Author.Rules.{rules}
-use Rattle.level_kept.proofs.Flags.{flags, settled-keeps}
+use Rattle.level_kept.proofs.Flags.{flags, settled_keeps}
 use Rattle.level_kept.proofs.keep.keeps.Statement.{statement}
 use Rattle.level_kept.proofs.keep.keeps.Tie as tie
 
@@ -28,7 +28,7 @@ returns c =
     let m = a.masks.now in
     let t = a.tops.now in
     let e = c.before.before.before.points.ensures in
-    settled-keeps a.width a.height m t _ _ _ e
+    settled_keeps a.width a.height m t _ _ _ e
     (f.flag.ensures ∙ ap (λ j. flags j m t j) (s.requires.3 ∙ sym e)) c.before.before.settle.ensures
 
 pub keeps_spec : {M : Type 1} → statement M

@@ -5,9 +5,9 @@ use lib.ListN.{length}
 use borrow.Author.Rules.{rules}
 use Rattle.laws.specs.Table.{number}
 use Rattle.table_entries.proofs.Entries.{at_in}
-use Rattle.table_entries.proofs.Filled.{Filled, filled_none, filled_more, filled-all}
+use Rattle.table_entries.proofs.Filled.{Filled, filled_none, filled_more, filled_all}
 use Rattle.level_kept.specs.Keep.{large}
-use Rattle.level_kept.proofs.Flags.{large-entry}
+use Rattle.level_kept.proofs.Flags.{large_entry}
 use Rattle.level_kept.proofs.keep.larges.Statement.{statement}
 use Rattle.level_kept.proofs.keep.larges.Tie as tie
 
@@ -48,14 +48,14 @@ loop-again : tie.Need-loop-preserved invariant-loop decreases-loop
 loop-again c =
     let b = c.before.before.before.loop-test.true in
     filled_more _ _ _ _ _ c.before.before.before.before.loop.invariant _ b
-    (large-entry _ _ _ _ (at_in _ _ (omega (arith, c.before.before.before.before.before.before.before.requires, b)))
+    (large_entry _ _ _ _ (at_in _ _ (omega (arith, c.before.before.before.before.before.before.before.requires, b)))
     (c.number.ensures ∙ ap number c.before.is-large.ensures))
 
 same_length : tie.Need-same-length invariant-loop decreases-loop
 same_length c = c.before.loop.invariant.long
 
 returns : tie.Need-returns invariant-loop decreases-loop
-returns c = filled-all _ _ _ _ _ c.before.loop.invariant c.loop-test.false
+returns c = filled_all _ _ _ _ _ c.before.loop.invariant c.loop-test.false
 
 pub larges-spec : {M : Type 1} → statement M
 larges-spec =

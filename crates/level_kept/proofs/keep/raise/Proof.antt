@@ -2,7 +2,7 @@ use mathlib.Core.Path.{refl}
 use native.Mathlib.Omega.{arith}
 use lib.ListN.{get_or}
 use borrow.Author.Rules.{rules}
-use Rattle.level_kept.proofs.Flags.{back-le}
+use Rattle.level_kept.proofs.Flags.{back_le}
 use Rattle.level_kept.proofs.keep.raise.Statement.{statement}
 use Rattle.level_kept.proofs.keep.raise.Tie as tie
 
@@ -21,10 +21,10 @@ sub-kept c = search rules
 mul-kept : tie.Need-overflow-mul-kept
 mul-kept c =
     let a = c.before.args in
-    omega (arith, back-le a.i (get_or a.tops.now a.i 0) _ c.before.requires.3)
+    omega (arith, back_le a.i (get_or a.tops.now a.i 0) _ c.before.requires.3)
 
 sub-kept-2 : tie.Need-overflow-sub-kept-2
-sub-kept-2 c = back-le _ _ _ c.before.requires.3
+sub-kept-2 c = back_le _ _ _ c.before.requires.3
 
 mul-kept-2 : tie.Need-overflow-mul-kept-2
 mul-kept-2 c = search rules

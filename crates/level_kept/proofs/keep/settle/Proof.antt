@@ -1,12 +1,12 @@
 use native.Mathlib.Nat.{le_refl}
 use Rattle.table_entries.proofs.Entries.{at_in}
-use Rattle.level_kept.proofs.Flags.{settle-entry}
+use Rattle.level_kept.proofs.Flags.{settle_entry}
 use mathlib.Core.Path.{sym, ◌∙◌}
 use Prim.Native.Nat.{◌-◌}
 use Rattle.level_kept.specs.Keep.{settles}
 use borrow.Author.Rules.{rules}
 use native.Mathlib.Omega.{arith}
-use Rattle.table_entries.proofs.Filled.{Filled, filled_none, filled_more, filled-all}
+use Rattle.table_entries.proofs.Filled.{Filled, filled_none, filled_more, filled_all}
 use Rattle.level_kept.proofs.keep.settle.Statement.{statement}
 use Rattle.level_kept.proofs.keep.settle.Tie as tie
 
@@ -79,7 +79,7 @@ loop-again c =
     let f = c.before.before.before.before.before.loop.invariant in
     let b = c.before.before.before.before.loop-test.true in
     filled_more _ _ _ _ _ f _ b
-    (settle-entry a.masks.now a.tops.now a.kept.now _ _ _ _ _
+    (settle_entry a.masks.now a.tops.now a.kept.now _ _ _ _ _
     (at_in a.masks.now _ (omega (arith, s.requires.0, b)))
     (at_in a.tops.now _ (omega (arith, s.requires.1, b)))
     (f.rest _ (le_refl _) ∙ at_in a.kept.now _ (omega (arith, s.requires.2, b)))
@@ -89,7 +89,7 @@ same_length : tie.Need-same-length invariant-loop decreases-loop
 same_length c = c.before.loop.invariant.long ∙ sym c.before.before.before.before.before.requires.2
 
 returns : tie.Need-returns invariant-loop decreases-loop
-returns c = filled-all _ _ _ _ _ c.before.loop.invariant c.loop-test.false
+returns c = filled_all _ _ _ _ _ c.before.loop.invariant c.loop-test.false
 
 pub settle-spec : {M : Type 1} → statement M
 settle-spec =

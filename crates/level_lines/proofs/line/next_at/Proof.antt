@@ -1,6 +1,6 @@
 use native.Mathlib.Omega.{arith}
 use Rattle.point_darts.specs.Dart.{mark, dart}
-use Rattle.level_lines.proofs.Pointing.{beside-fit, next-is}
+use Rattle.level_lines.proofs.Pointing.{beside_fit, next_is}
 use borrow.Author.Rules.{rules}
 use Rattle.level_lines.proofs.line.next_at.Statement.{statement}
 use Rattle.level_lines.proofs.line.next_at.Tie as tie
@@ -24,7 +24,7 @@ get-requires-4 c κs = search rules
 follow-four-requires : tie.Need-follow-four-requires
 follow-four-requires c κs =
     let b = c.before.before.before.before.before in
-    beside-fit _ _ _ _ _ _ b.before.before.before.requires.1 b.besides.ensures
+    beside_fit _ _ _ _ _ _ b.before.before.before.requires.1 b.besides.ensures
 
 put-present-requires : tie.Need-put-present-requires
 put-present-requires c κs = search rules
@@ -38,7 +38,7 @@ returns c =
     let g = f.before.before in
     let b = g.before.before.before.before in
     let a = b.before.before.before.args in
-    next-is a.width a.p _ _ b.besides.ensures f.follow-four.ensures
+    next_is a.width a.p _ _ b.besides.ensures f.follow-four.ensures
     c.before.before.put-present.ensures
     (g.before.before.before.get.ensures, g.before.before.get2.ensures, g.before.get3.ensures, g.get4.ensures)
 

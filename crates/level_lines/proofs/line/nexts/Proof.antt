@@ -4,11 +4,11 @@ use native.Mathlib.Omega.{arith}
 use lib.ListN.{length}
 use Rattle.point_darts.specs.Dart.{mark, dart}
 use Rattle.paper.specs.Level.{marked}
-use Rattle.point_darts.proofs.Fit.{point-fits}
+use Rattle.point_darts.proofs.Fit.{point_fits}
 use Rattle.table_entries.proofs.Entries.{at_out}
-use Rattle.table_entries.proofs.Passed.{Passed, passed_none, passed-room, passed-more, passed-so-far, passed-all}
+use Rattle.table_entries.proofs.Passed.{Passed, passed_none, passed_room, passed_more, passed_so_far, passed_all}
 use Rattle.level_lines.specs.Line.{onward, entry_of, nexts}
-use Rattle.level_lines.proofs.Pointing.{beside-fit, next-beside, lines-in, two-rows}
+use Rattle.level_lines.proofs.Pointing.{beside_fit, next_beside, lines_in, two_rows}
 use Rattle.level_lines.proofs.line.nexts.Statement.{statement}
 use Rattle.level_lines.proofs.line.nexts.Tie as tie
 
@@ -39,7 +39,7 @@ module _ (a : tie.After-points invariant-loop decreases-loop invariant-loop2 dec
   start = a.before.before.before
 
   rows_in : start.args.width + 1 + (start.args.width + 1) ≤ a.points.result
-  rows_in = omega (arith, a.points.ensures, two-rows _ _ start.pre.0)
+  rows_in = omega (arith, a.points.ensures, two_rows _ _ start.pre.0)
 
   point-0 : 0 < a.points.result
   point-0 = omega (arith, rows_in)
@@ -54,7 +54,7 @@ module _ (a : tie.After-points invariant-loop decreases-loop invariant-loop2 dec
     point-in = omega (arith, start.pre.1, a.points.ensures)
 
     fits : dart p 3 + 4 * (start.args.width + 2) < mark
-    fits = point-fits _ _ start.pre.0 _ a.points.ensures p b
+    fits = point_fits _ _ start.pre.0 _ a.points.ensures p b
 
     far-fits : p + (start.args.width + 1) < 65535
     unfolding mark dart
@@ -131,13 +131,13 @@ next-at-requires : tie.Need-next-at-requires invariant-loop decreases-loop invar
 next-at-requires c κs =
     let a = c.before in
     let b = point-0 a in
-    (point-in a _ b, fits a _ b, passed-room _ _ _ _ a.points.ensures _ _ _ (none a) b)
+    (point-in a _ b, fits a _ b, passed_room _ _ _ _ a.points.ensures _ _ _ (none a) b)
 
 loop-holds : tie.Need-loop-init invariant-loop decreases-loop invariant-loop2 decreases-loop2 invariant-loop3 decreases-loop3
 loop-holds c =
     let a = sized c in (
-      passed-so-far _ _ _ _ _ _
-          (passed-more _ _ _ _ a.points.ensures _ _ _ (none a) (point-0 a) _ c.before.before.next-at.ensures),
+      passed_so_far _ _ _ _ _ _
+          (passed_more _ _ _ _ a.points.ensures _ _ _ (none a) (point-0 a) _ c.before.before.next_at.ensures),
       omega arith,
       omega arith,
     )
@@ -166,12 +166,12 @@ lines-beside-requires c κs = let l = c.before.before.before in (l.before.loop.i
 follow-four-requires : tie.Need-follow-four-requires invariant-loop decreases-loop invariant-loop2 decreases-loop2 invariant-loop3 decreases-loop3
 follow-four-requires c κs =
     let b = c.before.before.before.before in
-    beside-fit _ _ _ _ _ _ (fits (known b.before) _ (here b.before)) b.besides.ensures
+    beside_fit _ _ _ _ _ _ (fits (known b.before) _ (here b.before)) b.besides.ensures
 
 put-present-requires : tie.Need-put-present-requires invariant-loop decreases-loop invariant-loop2 decreases-loop2 invariant-loop3 decreases-loop3
 put-present-requires c κs =
     let l = c.before.before.before.before.before.before in
-    (point-in (known l) _ (here l), passed-room _ _ _ _ (known l).points.ensures _ _ _ l.before.loop.invariant.0 (here l))
+    (point-in (known l) _ (here l), passed_room _ _ _ _ (known l).points.ensures _ _ _ l.before.loop.invariant.0 (here l))
 
 add-p : tie.Need-overflow-add-p invariant-loop decreases-loop invariant-loop2 decreases-loop2 invariant-loop3 decreases-loop3
 add-p c = omega (arith, near c.before.before.before.before.before.before.before.before.before)
@@ -187,11 +187,11 @@ loop-again c =
     let l = e.before.before.before.before in
     let m = (start (known l)).args.masks.now in
     let (r, i, k) = l.before.loop.invariant in (
-      passed-more _ _ _ _ (known l).points.ensures _ _ _ r (here l) _
-          (next-beside _ _ _ _ e.before.before.before.besides.ensures f.follow-four.ensures
+      passed_more _ _ _ _ (known l).points.ensures _ _ _ r (here l) _
+          (next_beside _ _ _ _ e.before.before.before.besides.ensures f.follow-four.ensures
           t.put-present.ensures e.lines-beside.ensures
-          (lines-in m _ _ (omega arith) (point-in (known l) _ (south-in l)))
-          (lines-in m _ _ (omega arith) (point-in (known l) _ (point-0 (known l))))),
+          (lines_in m _ _ (omega arith) (point-in (known l) _ (south-in l)))
+          (lines_in m _ _ (omega arith) (point-in (known l) _ (point-0 (known l))))),
       omega arith,
       omega (arith, l.loop-test.true),
     )
@@ -199,7 +199,7 @@ loop-again c =
 loop2-holds : tie.Need-loop2-init invariant-loop decreases-loop invariant-loop2 decreases-loop2 invariant-loop3 decreases-loop3
 loop2-holds c =
     let (r, i, k) = c.before.loop.invariant in
-    (passed-so-far _ _ _ _ _ _ r, c.loop-test.false, omega (arith, rows_in (sized c.before.before)))
+    (passed_so_far _ _ _ _ _ _ r, c.loop-test.false, omega (arith, rows_in (sized c.before.before)))
 
 sub-loop2 : tie.Need-overflow-sub-loop2 invariant-loop decreases-loop invariant-loop2 decreases-loop2 invariant-loop3 decreases-loop3
 sub-loop2 c = omega (arith, rows_in (sized c.before.before.before))
@@ -238,12 +238,12 @@ lines-beside-requires-2 c κs =
 follow-four-requires-2 : tie.Need-follow-four-requires-2 invariant-loop decreases-loop invariant-loop2 decreases-loop2 invariant-loop3 decreases-loop3
 follow-four-requires-2 c κs =
     let b = c.before.before.before.before in
-    beside-fit _ _ _ _ _ _ (fits (known2 b.before) _ (here2 b.before)) b.besides2.ensures
+    beside_fit _ _ _ _ _ _ (fits (known2 b.before) _ (here2 b.before)) b.besides2.ensures
 
 put-present-requires-2 : tie.Need-put-present-requires-2 invariant-loop decreases-loop invariant-loop2 decreases-loop2 invariant-loop3 decreases-loop3
 put-present-requires-2 c κs =
     let l = c.before.before.before.before.before.before in
-    (point-in (known2 l) _ (here2 l), passed-room _ _ _ _ (known2 l).points.ensures _ _ _ l.before.loop2.invariant.0 (here2 l))
+    (point-in (known2 l) _ (here2 l), passed_room _ _ _ _ (known2 l).points.ensures _ _ _ l.before.loop2.invariant.0 (here2 l))
 
 add-p-2 : tie.Need-overflow-add-p-2 invariant-loop decreases-loop invariant-loop2 decreases-loop2 invariant-loop3 decreases-loop3
 add-p-2 c = omega (arith, near2 c.before.before.before.before.before.before.before.before.before)
@@ -259,11 +259,11 @@ loop2-again c =
     let l = e.before.before.before.before in
     let m = (start (known2 l)).args.masks.now in
     let (r, i, k) = l.before.loop2.invariant in (
-      passed-more _ _ _ _ (known2 l).points.ensures _ _ _ r (here2 l) _
-          (next-beside _ _ _ _ e.before.before.before.besides2.ensures f.follow-four2.ensures
+      passed_more _ _ _ _ (known2 l).points.ensures _ _ _ r (here2 l) _
+          (next_beside _ _ _ _ e.before.before.before.besides2.ensures f.follow-four2.ensures
           t.put-present2.ensures e.lines-beside2.ensures
-          (lines-in m _ _ (omega arith) (point-in (known2 l) _ (south-in2 l)))
-          (lines-in m _ _ (omega arith) (point-in (known2 l) _ (omega (arith, here2 l))))),
+          (lines_in m _ _ (omega arith) (point-in (known2 l) _ (south-in2 l)))
+          (lines_in m _ _ (omega arith) (point-in (known2 l) _ (omega (arith, here2 l))))),
       omega arith,
       omega (arith, south-in2 l),
     )
@@ -271,7 +271,7 @@ loop2-again c =
 loop3-holds : tie.Need-loop3-init invariant-loop decreases-loop invariant-loop2 decreases-loop2 invariant-loop3 decreases-loop3
 loop3-holds c =
     let (r, i, k) = c.before.loop2.invariant in
-    (passed-so-far _ _ _ _ _ _ r, omega (arith, c.loop2-test.false), omega arith)
+    (passed_so_far _ _ _ _ _ _ r, omega (arith, c.loop2-test.false), omega arith)
 
 sub-loop3 : tie.Need-overflow-sub-loop3 invariant-loop decreases-loop invariant-loop2 decreases-loop2 invariant-loop3 decreases-loop3
 sub-loop3 c = omega (arith, rows_in (sized c.before.before.before.before.before))
@@ -297,12 +297,12 @@ lines-beside-requires-3 c κs = let l = c.before.before in (omega (arith, north-
 follow-four-requires-3 : tie.Need-follow-four-requires-3 invariant-loop decreases-loop invariant-loop2 decreases-loop2 invariant-loop3 decreases-loop3
 follow-four-requires-3 c κs =
     let b = c.before.before.before in
-    beside-fit _ _ _ _ _ _ (fits (known3 b.before) _ (here3 b.before)) b.besides3.ensures
+    beside_fit _ _ _ _ _ _ (fits (known3 b.before) _ (here3 b.before)) b.besides3.ensures
 
 put-present-requires-3 : tie.Need-put-present-requires-3 invariant-loop decreases-loop invariant-loop2 decreases-loop2 invariant-loop3 decreases-loop3
 put-present-requires-3 c κs =
     let l = c.before.before.before.before.before in
-    (point-in (known3 l) _ (here3 l), passed-room _ _ _ _ (known3 l).points.ensures _ _ _ l.before.loop3.invariant.0 (here3 l))
+    (point-in (known3 l) _ (here3 l), passed_room _ _ _ _ (known3 l).points.ensures _ _ _ l.before.loop3.invariant.0 (here3 l))
 
 add-p-3 : tie.Need-overflow-add-p-3 invariant-loop decreases-loop invariant-loop2 decreases-loop2 invariant-loop3 decreases-loop3
 add-p-3 c = omega (arith, near3 c.before.before.before.before.before.before.before.before)
@@ -319,11 +319,11 @@ loop3-again c =
     let l = e.before.before.before in
     let m = (start (known3 l)).args.masks.now in
     let (r, i, k) = l.before.loop3.invariant in (
-      passed-more _ _ _ _ (known3 l).points.ensures _ _ _ r (here3 l) _
-          (next-beside _ _ _ _ e.before.before.besides3.ensures f.follow-four3.ensures
+      passed_more _ _ _ _ (known3 l).points.ensures _ _ _ r (here3 l) _
+          (next_beside _ _ _ _ e.before.before.besides3.ensures f.follow-four3.ensures
           t.put-present3.ensures e.lines-beside3.ensures
           (at_out m _ (omega (arith, (start (known3 l)).pre.1, (known3 l).points.ensures)))
-          (lines-in m _ _ (omega arith) (point-in (known3 l) _ (omega (arith, here3 l))))),
+          (lines_in m _ _ (omega arith) (point-in (known3 l) _ (omega (arith, here3 l))))),
       omega arith,
       omega (arith, inside3 l),
     )
@@ -332,7 +332,7 @@ next-at-requires-2 : tie.Need-next-at-requires-2 invariant-loop decreases-loop i
 next-at-requires-2 c κs =
     let e = c.before in
     let a = ended e in
-    (point-in a _ (last e), fits a _ (last e), passed-room _ _ _ _ a.points.ensures _ _ _ e.before.loop3.invariant.0 (last e))
+    (point-in a _ (last e), fits a _ (last e), passed_room _ _ _ _ a.points.ensures _ _ _ e.before.loop3.invariant.0 (last e))
 
 same_length : tie.Need-same-length invariant-loop decreases-loop invariant-loop2 decreases-loop2 invariant-loop3 decreases-loop3
 same_length c =
@@ -345,8 +345,8 @@ returns c =
     let e = c.before.before.before.before in
     let a = ended e in
     let r = e.before.loop3.invariant.0 in
-    let u = passed-more _ _ _ _ a.points.ensures _ _ _ r (last e) _ c.before.before.next-at2.ensures in
-    passed-all _ _ _ _ a.points.ensures _ _ _ u (omega (arith, e.loop3-test.false))
+    let u = passed_more _ _ _ _ a.points.ensures _ _ _ r (last e) _ c.before.before.next-at2.ensures in
+    passed_all _ _ _ _ a.points.ensures _ _ _ u (omega (arith, e.loop3-test.false))
 
 pub nexts-spec : {M : Type 1} → statement M
 nexts-spec =

@@ -3,8 +3,8 @@ use Prim.Native.Nat.{◌-◌}
 use native.Mathlib.Omega.{arith}
 use Rattle.paper.specs.Level.{marked}
 use Rattle.point_darts.specs.Dart.{reversal}
-use Rattle.point_darts.proofs.Fit.{point-fits}
-use Rattle.table_entries.proofs.Passed.{Passed, passed_none, passed-room, passed-more, passed-all}
+use Rattle.point_darts.proofs.Fit.{point_fits}
+use Rattle.table_entries.proofs.Passed.{Passed, passed_none, passed_room, passed_more, passed_all}
 use Rattle.level_lines.specs.Line.{entry_of, others}
 use Rattle.level_lines.proofs.line.others.Statement.{statement}
 use Rattle.level_lines.proofs.line.others.Tie as tie
@@ -28,7 +28,7 @@ other-at-requires c κs =
     let q = p.before.before.before.requires in
     let e = p.points.ensures in
     let b = l.loop-test.true in
-    (omega (arith, q.1, e, b), point-fits _ _ q.0 _ e _ b, passed-room _ _ _ _ e _ _ _ l.before.loop.invariant b)
+    (omega (arith, q.1, e, b), point_fits _ _ q.0 _ e _ b, passed_room _ _ _ _ e _ _ _ l.before.loop.invariant b)
 
 add-p : tie.Need-overflow-add-p invariant-loop decreases-loop
 add-p c = omega (arith, c.before.before.before.before.loop-test.true)
@@ -39,7 +39,7 @@ loop-less c = omega (arith, c.before.before.before.before.loop-test.true)
 loop-again : tie.Need-loop-preserved invariant-loop decreases-loop
 loop-again c =
     let l = c.before.before.before.before in
-    passed-more _ _ _ _ l.before.before.points.ensures _ _ _ l.before.loop.invariant l.loop-test.true _
+    passed_more _ _ _ _ l.before.before.points.ensures _ _ _ l.before.loop.invariant l.loop-test.true _
     c.before.before.other_at.ensures
 
 same_length : tie.Need-same-length invariant-loop decreases-loop
@@ -47,7 +47,7 @@ same_length c = c.before.loop.invariant.long ∙ sym c.before.before.before.befo
 
 returns : tie.Need-returns invariant-loop decreases-loop
 unfolding others marked entry_of
-returns c = passed-all _ _ _ _ c.before.before.points.ensures _ _ _ c.before.loop.invariant c.loop-test.false
+returns c = passed_all _ _ _ _ c.before.before.points.ensures _ _ _ c.before.loop.invariant c.loop-test.false
 
 pub others-spec : {M : Type 1} → statement M
 others-spec =

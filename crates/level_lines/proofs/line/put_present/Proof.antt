@@ -1,6 +1,6 @@
 use mathlib.Core.Path.{sym}
 use Rattle.table_entries.proofs.Entries.{at_entry}
-use Rattle.level_lines.proofs.Pointing.{present-is}
+use Rattle.level_lines.proofs.Pointing.{present_is}
 use borrow.Author.Rules.{rules}
 use Rattle.level_lines.proofs.line.put_present.Statement.{statement}
 use Rattle.level_lines.proofs.line.put_present.Tie as tie
@@ -33,7 +33,7 @@ returns : tie.Need-returns
 returns c =
     let w = c.before.before.before.before in
     let s = w.before.before.before.before.before.before.before in
-    present-is _ _ _ _ _ _ _ _ _ _ _ _ _ (sym (at_entry _ _ s.requires.0))
+    present_is _ _ _ _ _ _ _ _ _ _ _ _ _ (sym (at_entry _ _ s.requires.0))
     w.before.before.before.where-present.ensures w.before.before.where-present2.ensures w.before.where-present3.ensures
     w.where-present4.ensures c.before.before.put_four.ensures
 

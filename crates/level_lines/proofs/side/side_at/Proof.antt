@@ -4,7 +4,7 @@ use lib.Dec.{lit<}
 use Rattle.point_darts.specs.Dart.{dart}
 use Rattle.point_darts.specs.Point.{right}
 use Rattle.level_lines.specs.Side.{beheld}
-use Rattle.level_lines.proofs.Beheld.{beheld-dart}
+use Rattle.level_lines.proofs.Beheld.{beheld_dart}
 use borrow.Author.Rules.{rules}
 use Rattle.level_lines.proofs.side.side_at.Statement.{statement}
 use Rattle.level_lines.proofs.side.side_at.Tie as tie
@@ -37,7 +37,7 @@ returns c =
     let a = o.before.before.before.before.args in
     let f = beheld a.width a.framed.now in
     let seen : (k : ℕ) → k < 4 → right o.around.result k ≡ f (dart a.p k) =
-    λ k b. ap (λ t. right t k) o.around.ensures ∙ beheld-dart a.width a.p a.framed.now k b in
+    λ k b. ap (λ t. right t k) o.around.ensures ∙ beheld_dart a.width a.p a.framed.now k b in
     c.before.before.put-present.ensures f (r.before.before.before.right.ensures ∙ seen 0 (lit< tt))
     (r.before.before.right2.ensures ∙ seen 1 (lit< tt))
     (r.before.right3.ensures ∙ seen 2 (lit< tt)) (r.right4.ensures ∙ seen 3 (lit< tt))

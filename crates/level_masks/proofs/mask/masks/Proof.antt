@@ -3,7 +3,7 @@ use Prim.Native.Nat.{◌-◌}
 use native.Mathlib.Omega.{arith}
 use Rattle.point_darts.specs.Dart.{points}
 use Rattle.point_darts.specs.Point.{present}
-use Rattle.table_entries.proofs.Filled.{Filled, filled_none, filled_more, filled-all}
+use Rattle.table_entries.proofs.Filled.{Filled, filled_none, filled_more, filled_all}
 use Rattle.level_masks.specs.Mask.{around, masked}
 use borrow.Author.Rules.{rules}
 use Rattle.level_masks.proofs.mask.masks.Statement.{statement}
@@ -58,7 +58,7 @@ same_length c = c.before.loop.invariant.long ∙ sym c.before.before.before.befo
 
 returns : tie.Need-returns invariant-loop decreases-loop
 unfolding masked
-returns c = filled-all _ _ _ _ _ c.before.loop.invariant (omega (arith, c.before.before.points.ensures, c.loop-test.false))
+returns c = filled_all _ _ _ _ _ c.before.loop.invariant (omega (arith, c.before.before.points.ensures, c.loop-test.false))
 
 pub masks-spec : {M : Type 1} → statement M
 masks-spec =

@@ -1,6 +1,6 @@
-use Rattle.sheet_size.proofs.Limit.{within-limits}
-use Rattle.point_darts.proofs.Fit.{points-fit}
-use Rattle.level_masks.proofs.Ruling.{Ruling, ruling-none, ruling-column, ruling-row, ruling-on, ruling-down, ruling-all}
+use Rattle.sheet_size.proofs.Limit.{within_limits}
+use Rattle.point_darts.proofs.Fit.{points_fit}
+use Rattle.level_masks.proofs.Ruling.{Ruling, ruling_none, ruling_column, ruling_row, ruling_on, ruling_down, ruling_all}
 use mathlib.Core.Path.{sym, ◌∙◌}
 use Prim.Native.Nat.{◌-◌}
 use borrow.Author.Rules.{rules}
@@ -15,7 +15,7 @@ abbrev decreases-loop : tie.decreases-loop
 decreases-loop width height masks₀ n i₀ x₀ y₀ masks i x y = n - i
 
 loop-holds : tie.Need-loop-init invariant-loop decreases-loop
-loop-holds c = ruling-none _ _ _ c.before.requires.1
+loop-holds c = ruling_none _ _ _ c.before.requires.1
 
 ruling-requires : tie.Need-ruling-requires invariant-loop decreases-loop
 ruling-requires c κs = search rules
@@ -26,7 +26,7 @@ mul-masks c =
       arith,
       c.before.loop-test.true,
       c.before.before.before.before.requires.1,
-      points-fit _ _ c.before.before.before.before.requires.0,
+      points_fit _ _ c.before.before.before.before.requires.0,
     )
 
 slice-write-masks : tie.Need-slice-write-masks invariant-loop decreases-loop
@@ -45,18 +45,18 @@ add-x : tie.Need-overflow-add-x invariant-loop decreases-loop
 add-x c =
     omega (
       arith,
-      ruling-column _ _ _ _ _ _ _ c.before.before.loop.invariant,
-      within-limits _ _ c.before.before.before.before.requires.0,
+      ruling_column _ _ _ _ _ _ _ c.before.before.loop.invariant,
+      within_limits _ _ c.before.before.before.before.requires.0,
     )
 
 add-y : tie.Need-overflow-add-y invariant-loop decreases-loop
 add-y c =
     omega (
       arith,
-      ruling-row _ _ _ _ _ _ _ c.before.before.before.loop.invariant,
+      ruling_row _ _ _ _ _ _ _ c.before.before.before.loop.invariant,
       c.before.before.loop-test.true,
       c.before.before.before.before.before.requires.1,
-      points-fit _ _ c.before.before.before.before.before.requires.0,
+      points_fit _ _ c.before.before.before.before.before.requires.0,
     )
 
 loop-less : tie.Need-loop-smaller invariant-loop decreases-loop
@@ -64,7 +64,7 @@ loop-less c = omega arith
 
 loop-again : tie.Need-loop-preserved invariant-loop decreases-loop
 loop-again c =
-    ruling-down _ _ _ _ _ _ _ c.before.before.before.loop.invariant _ (omega (
+    ruling_down _ _ _ _ _ _ _ c.before.before.before.loop.invariant _ (omega (
       arith,
       c.before.before.loop-test.true,
       c.before.before.before.before.before.requires.1,
@@ -75,7 +75,7 @@ loop-less-2 c = omega arith
 
 loop-again-2 : tie.Need-loop-preserved-2 invariant-loop decreases-loop
 loop-again-2 c =
-    ruling-on _ _ _ _ _ _ _ c.before.before.before.loop.invariant _ (omega (
+    ruling_on _ _ _ _ _ _ _ c.before.before.before.loop.invariant _ (omega (
       arith,
       c.before.before.loop-test.true,
       c.before.before.before.before.before.requires.1,
@@ -86,7 +86,7 @@ same_length c = c.before.loop.invariant.filled.long ∙ sym c.before.before.befo
 
 returns : tie.Need-returns invariant-loop decreases-loop
 returns c =
-    ruling-all _ _ _ _ _ _ _ c.before.loop.invariant (omega (
+    ruling_all _ _ _ _ _ _ _ c.before.loop.invariant (omega (
       arith,
       c.loop-test.false,
       c.before.before.before.requires.1,

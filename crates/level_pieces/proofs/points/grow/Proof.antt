@@ -1,7 +1,7 @@
 use native.Mathlib.Omega.{arith}
 use borrow.Author.Rules.{rules}
 use Rattle.point_darts.specs.Dart.{mark, dart}
-use Rattle.level_pieces.proofs.Neighbour.{toward-back}
+use Rattle.level_pieces.proofs.Neighbour.{toward_back}
 use Rattle.table_forest.proofs.Reach.{tied_by}
 use Rattle.level_pieces.proofs.points.grow.Statement.{statement}
 use Rattle.level_pieces.proofs.points.grow.Tie as tie
@@ -28,8 +28,8 @@ toward-requires-2 c κs = omega (arith, c.leaving2.ensures)
 plant-requires : tie.Need-plant-requires
 plant-requires c κs =
     let q = c.before.before.before.before.before.before.before.requires in
-    let w = toward-back _ _ _ _ _ c.before.before.before.toward.ensures in
-    (q.5, q.4, w, toward-back _ _ _ _ _ c.before.toward2.ensures)
+    let w = toward_back _ _ _ _ _ c.before.before.before.toward.ensures in
+    (q.5, q.4, w, toward_back _ _ _ _ _ c.before.toward2.ensures)
 
 same_length : tie.Need-same-length
 same_length c = search rules

@@ -5,8 +5,8 @@ use lib.ListN.{length}
 use Rattle.sheet_size.specs.Size.{widest}
 use Rattle.point_darts.specs.Dart.{mark, dart}
 use Rattle.paper.specs.Level.{tops}
-use Rattle.point_darts.proofs.Fit.{width-fit, darts-fit, row-fit}
-use Rattle.table_forest.proofs.Reach.{Reached, growing, reached-none, reached-more, reached-grown, reached-least}
+use Rattle.point_darts.proofs.Fit.{width_fit, darts_fit, row_fit}
+use Rattle.table_forest.proofs.Reach.{Reached, growing, reached_none, reached_more, reached_grown, reached_least}
 use Rattle.level_pieces.specs.Piece.{toward}
 use Rattle.level_pieces.proofs.points.top_points.Statement.{statement}
 use Rattle.level_pieces.proofs.points.top_points.Tie as tie
@@ -30,14 +30,14 @@ module _ (a : tie.After-points invariant-loop decreases-loop invariant-loop2 dec
   start = a.before.before.before
 
   row_in : start.args.width + 1 ≤ a.points.result
-  row_in = omega (arith, a.points.ensures, row-fit start.args.width start.args.height)
+  row_in = omega (arith, a.points.ensures, row_fit start.args.width start.args.height)
 
   wide : start.args.width ≤ widest
-  wide = width-fit _ _ start.pre.0
+  wide = width_fit _ _ start.pre.0
 
   fits : (p : ℕ) → p < a.points.result → (dart p 3 < mark) × (dart p 3 < length start.args.side.now)
   fits p b =
-      let d = darts-fit _ _ start.pre.0 _ a.points.ensures p b in
+      let d = darts_fit _ _ start.pre.0 _ a.points.ensures p b in
       (d.0, omega (arith, start.pre.1, d.1))
 
 -- The point at hand is one of the sheet.
@@ -52,7 +52,7 @@ add_row : tie.Need-overflow-add-row invariant-loop decreases-loop invariant-loop
 add_row c = omega (arith, row_in c)
 
 loop-holds : tie.Need-loop-init invariant-loop decreases-loop invariant-loop2 decreases-loop2
-loop-holds c = reached-none _ _ _ _ ((start c).requires.2 ∙ sym c.points.ensures)
+loop-holds c = reached_none _ _ _ _ ((start c).requires.2 ∙ sym c.points.ensures)
 
 grow-first-requires : tie.Need-grow-first-requires invariant-loop decreases-loop invariant-loop2 decreases-loop2
 grow-first-requires c κs =
@@ -72,7 +72,7 @@ loop-again : tie.Need-loop-preserved invariant-loop decreases-loop invariant-loo
 loop-again c =
     let g = c.before.before.grow_first in
     let f = c.before.before.before.before.before.loop.invariant in
-    reached-more _ _ _ _ _ f _ g.auto.1.1.0 (g.ensures (growing _ _ _ _ _ f))
+    reached_more _ _ _ _ _ f _ g.auto.1.1.0 (g.ensures (growing _ _ _ _ _ f))
 
 loop2-holds : tie.Need-loop2-init invariant-loop decreases-loop invariant-loop2 decreases-loop2
 loop2-holds c = (c.before.loop.invariant, c.loop-test.false)
@@ -95,10 +95,10 @@ loop2-again : tie.Need-loop2-preserved invariant-loop decreases-loop invariant-l
 loop2-again c =
     let g = c.before.before.grow in
     let (f, r) = c.before.before.before.before.before.loop2.invariant in
-    (reached-more _ _ _ _ _ f _ g.auto.1.1.0 (g.ensures (growing _ _ _ _ _ f)), omega (arith, r))
+    (reached_more _ _ _ _ _ f _ g.auto.1.1.0 (g.ensures (growing _ _ _ _ _ f)), omega (arith, r))
 
 flatten-requires : tie.Need-flatten-requires invariant-loop decreases-loop invariant-loop2 decreases-loop2
-flatten-requires c κs = reached-grown _ _ _ _ _ c.before.before.loop2.invariant.0 c.before.loop2-test.false
+flatten-requires c κs = reached_grown _ _ _ _ _ c.before.before.loop2.invariant.0 c.before.loop2-test.false
 
 same_length : tie.Need-same-length invariant-loop decreases-loop invariant-loop2 decreases-loop2
 same_length c =
@@ -111,7 +111,7 @@ unfolding tops
 returns c =
     let b = c.before.before.before.before in
     rw (← b.before.before.before.before.points.ensures)
-    (reached-least _ _ _ _ _ b.before.loop2.invariant.0 _ b.loop2-test.false c.before.before.flatten.ensures)
+    (reached_least _ _ _ _ _ b.before.loop2.invariant.0 _ b.loop2-test.false c.before.before.flatten.ensures)
 
 pub top-points-spec : {M : Type 1} → statement M
 top-points-spec =

@@ -4,7 +4,7 @@ use native.Mathlib.Omega.{arith}
 use lib.ListN.{length}
 use Rattle.laws.specs.Table.{count}
 use Rattle.paper.specs.Joining.{on}
-use Rattle.listing.proofs.Used.{used-none, used-more, used-same}
+use Rattle.listing.proofs.Used.{used_none, used_more, used_same}
 use Rattle.listing.proofs.lines.entries.Statement.{statement}
 use Rattle.listing.proofs.lines.entries.Tie as tie
 
@@ -15,7 +15,7 @@ abbrev decreases-loop : tie.decreases-loop
 decreases-loop table used₀ i₀ used i = length table - i
 
 loop-holds : tie.Need-loop-init invariant-loop decreases-loop
-loop-holds c = (used-none _, omega arith, omega arith)
+loop-holds c = (used_none _, omega arith, omega arith)
 
 mul-entry : tie.Need-overflow-mul-entry invariant-loop decreases-loop
 mul-entry c = omega arith
@@ -35,7 +35,7 @@ loop-less c = omega arith
 loop-again : tie.Need-loop-preserved invariant-loop decreases-loop
 loop-again c =
     let l = c.before.before.before.loop in
-    (used-more _ _ _ c.before.before.loop-test.true l.invariant.0 c.if1.true, omega arith, omega arith)
+    (used_more _ _ _ c.before.before.loop-test.true l.invariant.0 c.if1.true, omega arith, omega arith)
 
 loop-less-2 : tie.Need-loop-smaller-2 invariant-loop decreases-loop
 loop-less-2 c = omega arith
@@ -43,7 +43,7 @@ loop-less-2 c = omega arith
 loop-again-2 : tie.Need-loop-preserved-2 invariant-loop decreases-loop
 loop-again-2 c =
     let l = c.before.before.before.loop in
-    (used-same _ _ _ c.before.before.loop-test.true l.invariant.0 c.if1.false, omega arith, omega arith)
+    (used_same _ _ _ c.before.before.loop-test.true l.invariant.0 c.if1.false, omega arith, omega arith)
 
 returns : tie.Need-returns invariant-loop decreases-loop
 returns c =

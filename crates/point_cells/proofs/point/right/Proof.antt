@@ -1,5 +1,5 @@
 use Rattle.point_darts.specs.Point.{right}
-use Rattle.point_darts.proofs.Arm.{right-rest}
+use Rattle.point_darts.proofs.Arm.{right_rest}
 use lib.Dec.{lit<}
 use Rattle.point_cells.proofs.point.right.Statement.{statement}
 use Rattle.point_cells.proofs.point.right.Tie as tie
@@ -33,7 +33,7 @@ unfolding right
 returns-4 c = rw c.before.match.keys4 c.corner4.ensures
 
 returns-5 : tie.Need-returns-5
-returns-5 c = rw (right-rest _ _ c.match.rest.0.0.0.1 c.match.rest.0.0.1 c.match.rest.0.1 c.match.rest.1)
+returns-5 c = rw (right_rest _ _ c.match.rest.0.0.0.1 c.match.rest.0.0.1 c.match.rest.0.1 c.match.rest.1)
 
 pub right-spec : {M : Type 1} → statement M
 right-spec =

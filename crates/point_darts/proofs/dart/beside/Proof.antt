@@ -1,5 +1,5 @@
 use Rattle.point_darts.specs.Dart.{beside}
-use Rattle.point_darts.proofs.Arm.{beside-rest}
+use Rattle.point_darts.proofs.Arm.{beside_rest}
 use borrow.Author.Rules.{rules}
 use Rattle.point_darts.proofs.dart.beside.Statement.{statement}
 use Rattle.point_darts.proofs.dart.beside.Tie as tie
@@ -37,7 +37,7 @@ returns-3 c = rw c.before.match.keys3 c.less.ensures
 returns-4 : tie.Need-returns-4
 returns-4 c =
     let r = c.before.match.rest in
-    rw (beside-rest _ _ _ r.0.0.1 r.0.1 r.1) c.less2.ensures
+    rw (beside_rest _ _ _ r.0.0.1 r.0.1 r.1) c.less2.ensures
 
 pub beside-spec : {M : Type 1} → statement M
 beside-spec =

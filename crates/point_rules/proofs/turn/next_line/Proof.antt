@@ -6,23 +6,23 @@ use borrow.Author.Tests.{lt-ltb, le-ltb}
 use Rattle.point_darts.specs.Dart.{turned}
 use Rattle.point_darts.specs.Point.{has}
 use Rattle.point_rules.specs.declared.turn.Turn.{Turn}
-use Rattle.point_rules.specs.Turn.{turning, turningOf, led, turn_of}
-use Rattle.point_darts.proofs.Darts.{turned-below, turned_none}
+use Rattle.point_rules.specs.Turn.{turning, turning_of, led, turn_of}
+use Rattle.point_darts.proofs.Darts.{turned_below, turned_none}
 use borrow.Author.Rules.{rules}
 use Rattle.point_rules.proofs.turn.next_line.Statement.{statement}
 use Rattle.point_rules.proofs.turn.next_line.Tie as tie
 
 -- No turn, where a number is no mask or no heading.
-no-turn : (m k : ℕ) → (ltb m 16 && ltb k 4) ≡ false → (4 ≡ turn_of m k) × (Turn.None ≡ turningOf m k)
-unfolding turn_of turningOf led
+no-turn : (m k : ℕ) → (ltb m 16 && ltb k 4) ≡ false → (4 ≡ turn_of m k) × (Turn.None ≡ turning_of m k)
+unfolding turn_of turning_of led
 no-turn m k e = rw e (refl, refl)
 
 -- The turn, and the line that it leads to, by whether the mask has the line to the right, straight on, to the left and back.
 by_tests : (m k : ℕ) → m < 16 → k < 4 → (r s l b : Bool)
     → has m (turned k 1) ≡ r → has m k ≡ s → has m (turned k 3) ≡ l → has m (turned k 2) ≡ b
     → let v = cond r Turn.Right (cond s Turn.Straight (cond l Turn.Left (cond b Turn.Back Turn.None))) in
-    (led k v ≡ turn_of m k) × (v ≡ turningOf m k)
-unfolding turn_of turningOf turning
+    (led k v ≡ turn_of m k) × (v ≡ turning_of m k)
+unfolding turn_of turning_of turning
 by_tests m k p q r s l b er es el eb = rw (lt-ltb m 16 p, lt-ltb k 4 q, turned_none k q, er, es, el, eb) (refl, refl)
 
 -- What the mask has, from the calls that ask it.
@@ -68,7 +68,7 @@ add_right c = search rules
 
 has-requires : tie.Need-has-requires
 unfolding turned
-has-requires c κs = turned-below _ 1
+has-requires c κs = turned_below _ 1
 
 returns-3 : tie.Need-returns-3
 unfolding led turned
@@ -94,7 +94,7 @@ add_left c = search rules
 
 has-requires-3 : tie.Need-has-requires-3
 unfolding turned
-has-requires-3 c κs = turned-below _ 3
+has-requires-3 c κs = turned_below _ 3
 
 returns-5 : tie.Need-returns-5
 unfolding led turned
@@ -110,13 +110,13 @@ add_back c = search rules
 
 has-requires-4 : tie.Need-has-requires-4
 unfolding turned
-has-requires-4 c κs = turned-below _ 2
+has-requires-4 c κs = turned_below _ 2
 
 -- The last question, back or none.
 last : (b : tie.After-has4) (x : Bool) → b.has4.result ≡ x
     → let h = b.before.before.before.before.before.before in
     let v = cond x Turn.Back Turn.None in
-    (led (heading h) v ≡ turn_of (present h) (heading h)) × (v ≡ turningOf (present h) (heading h))
+    (led (heading h) v ≡ turn_of (present h) (heading h)) × (v ≡ turning_of (present h) (heading h))
 last b x e =
     let l = b.before.before in
     let s = l.before.before in

@@ -2,12 +2,12 @@ use mathlib.Core.Path.{refl}
 use Rattle.laws.specs.Table.{table, listed}
 use Rattle.point_darts.specs.Dart.{turned}
 use Rattle.point_darts.specs.Point.{bits, half, has, degree, inline}
-use Rattle.point_rules.specs.Turn.{without, impossible, kind, becomes, becomesAt, pointTable}
+use Rattle.point_rules.specs.Turn.{without, impossible, kind, becomes, becomes_at, point_table}
 use Rattle.point_rules.proofs.turn.point_table.Statement.{statement}
 use Rattle.point_rules.proofs.turn.point_table.Tie as tie
 
 returns : tie.Need-returns
-unfolding pointTable becomesAt becomes without impossible kind turned bits half has degree inline table listed
+unfolding point_table becomes_at becomes without impossible kind turned bits half has degree inline table listed
 returns c = refl
 
 pub point-table-spec : {M : Type 1} → statement M

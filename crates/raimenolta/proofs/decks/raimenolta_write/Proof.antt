@@ -1,4 +1,4 @@
-use Rattle.deck_card.specs.Outcome.{writeOutcome}
+use Rattle.deck_card.specs.Outcome.{write_outcome}
 use Rattle.raimenolta.specs.Slot.{carded}
 use borrow.Author.Rules.{rules}
 use Rattle.raimenolta.proofs.decks.raimenolta_write.Statement.{statement}
@@ -14,7 +14,7 @@ same_length : tie.Need-same-length
 same_length c = c.before.before.before.write.auto.1.1.1.0
 
 returns : tie.Need-returns
-unfolding writeOutcome carded
+unfolding write_outcome carded
 returns c = rw (c.number.ensures, ← c.before.before.before.write.ensures)
 
 pub raimenolta-write-spec : {M : Type 1} → statement M

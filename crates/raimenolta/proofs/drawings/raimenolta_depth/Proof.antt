@@ -1,4 +1,4 @@
-use Rattle.raimenolta.proofs.Slots.{count-slotted, depth-valued}
+use Rattle.raimenolta.proofs.Slots.{count_slotted, depth_valued}
 use borrow.Author.Rules.{rules}
 use Rattle.raimenolta.proofs.drawings.raimenolta_depth.Statement.{statement}
 use Rattle.raimenolta.proofs.drawings.raimenolta_depth.Tie as tie
@@ -25,8 +25,8 @@ same-length-4 : tie.Need-same-length-4
 same-length-4 c = (counted c).depth.auto.1.1.1.1.1.1.1.1.1.1.1.1.1.0
 
 returns : tie.Need-returns
-returns c = count-slotted _ _ _ _ _ _ _ c.put.ensures.0 c.put.ensures.1 (counted c).depth.ensures
-    (depth-valued _ _ _ _ _)
+returns c = count_slotted _ _ _ _ _ _ _ c.put.ensures.0 c.put.ensures.1 (counted c).depth.ensures
+    (depth_valued _ _ _ _ _)
 
 pub raimenolta-depth-spec : {M : Type 1} → statement M
 raimenolta-depth-spec =

@@ -1,4 +1,4 @@
-use Rattle.raimenolta.proofs.Slots.{count-slotted, holes-valued}
+use Rattle.raimenolta.proofs.Slots.{count_slotted, holes_valued}
 use borrow.Author.Rules.{rules}
 use Rattle.raimenolta.proofs.drawings.raimenolta_holes.Statement.{statement}
 use Rattle.raimenolta.proofs.drawings.raimenolta_holes.Tie as tie
@@ -25,8 +25,8 @@ same-length-4 : tie.Need-same-length-4
 same-length-4 c = (counted c).holes.auto.1.1.1.1.1.1.1.1.1.1.1.1.1.0
 
 returns : tie.Need-returns
-returns c = count-slotted _ _ _ _ _ _ _ c.put.ensures.0 c.put.ensures.1 (counted c).holes.ensures
-    (holes-valued _ _ _ _ _)
+returns c = count_slotted _ _ _ _ _ _ _ c.put.ensures.0 c.put.ensures.1 (counted c).holes.ensures
+    (holes_valued _ _ _ _ _)
 
 pub raimenolta-holes-spec : {M : Type 1} → statement M
 raimenolta-holes-spec =

@@ -1,4 +1,4 @@
-use Rattle.raimenolta.proofs.Slots.{list-slotted}
+use Rattle.raimenolta.proofs.Slots.{list_slotted}
 use Rattle.raimenolta.proofs.drawings.raimenolta_join_list.Statement.{statement}
 use Rattle.raimenolta.proofs.drawings.raimenolta_join_list.Tie as tie
 
@@ -47,7 +47,7 @@ same-length-11 : tie.Need-same-length-11
 same-length-11 c = (listed c).join-list.auto.1.1.1.1.1.1.1.1.1.1.1.1.1.0
 
 returns : tie.Need-returns
-returns c = list-slotted _ _ _ _ _ _ _ _ _ _ _ c.put.ensures.0 c.put.ensures.1 (listed c).join-list.ensures
+returns c = list_slotted _ _ _ _ _ _ _ _ _ _ _ c.put.ensures.0 c.put.ensures.1 (listed c).join-list.ensures
 
 pub raimenolta-join-list-spec : {M : Type 1} → statement M
 raimenolta-join-list-spec =

@@ -1,5 +1,5 @@
 use borrow.Author.Rules.{rules}
-use Rattle.raimenolta_values.proofs.Place.{place-left, place-put}
+use Rattle.raimenolta_values.proofs.Place.{place_left, place_put}
 use Rattle.raimenolta_values.proofs.list.put.Statement.{statement}
 use Rattle.raimenolta_values.proofs.list.put.Tie as tie
 
@@ -13,10 +13,10 @@ number-requires : tie.Need-number-requires
 number-requires c κs = tt
 
 returns : tie.Need-returns
-returns c = place-left _ _ c.enum_told.given.1
+returns c = place_left _ _ c.enum_told.given.1
 
 returns-2 : tie.Need-returns-2
-returns-2 c = place-put _ _ _ _ _ c.before.before.answer.given.1 c.number.ensures
+returns-2 c = place_put _ _ _ _ _ c.before.before.answer.given.1 c.number.ensures
 
 pub put_spec : {M : Type 1} → statement M
 put_spec = tie.close (tie.spec enum_told enum-known-answer number-requires returns returns-2)

@@ -1,6 +1,6 @@
 use native.Mathlib.Omega.{arith}
 use borrow.Author.Rules.{rules}
-use Rattle.region_darts.proofs.Linking.{link-lists}
+use Rattle.region_darts.proofs.Linking.{link_lists}
 use Rattle.region_darts.proofs.list.link_lists.Statement.{statement}
 use Rattle.region_darts.proofs.list.link_lists.Tie as tie
 
@@ -36,7 +36,7 @@ returns : tie.Need-returns
 returns c = λ s g d e same named room o p r.
     let l = set-list c in
     let k = set_last c in
-    link-lists s g _ _ _ _ _ d e same named room o p r (omega arith) _ _ _ _ _ l.before.before.get.ensures
+    link_lists s g _ _ _ _ _ d e same named room o p r (omega arith) _ _ _ _ _ l.before.before.get.ensures
     l.before.get2.ensures k.before.get3.ensures l.put.ensures k.put2.ensures
 
 pub link-lists-spec : {M : Type 1} → statement M

@@ -3,8 +3,8 @@ use Prim.Native.Nat.{◌-◌}
 use native.Mathlib.Omega.{arith}
 use lib.ListN.{length, replicate}
 use Rattle.point_darts.specs.Dart.{mark}
-use Rattle.table_entries.proofs.Entries.{at_entry, on-entry}
-use Rattle.region_darts.proofs.Listing.{Listing, listing_none, listing-less, listing-more, listing-all}
+use Rattle.table_entries.proofs.Entries.{at_entry, on_entry}
+use Rattle.region_darts.proofs.Listing.{Listing, listing_none, listing_less, listing_more, listing_all}
 use Rattle.region_darts.proofs.list.list_sides.Statement.{statement}
 use Rattle.region_darts.proofs.list.list_sides.Tie as tie
 
@@ -74,8 +74,8 @@ loop-again c =
     let r = k.loop.inv in
     let e = (put c).put_first.ensures in
     let h = at_entry s (k.loop.i - 1) (omega (arith, r.room)) in
-    let b = q.3 (k.loop.i - 1) (on-entry s (k.loop.i - 1) (λ z. (tested c).if1.true (sym h ∙ z))) in
-    listing-more _ _ _ _ _ _ _ r (omega arith) _ h (tested c).if1.true (omega (arith, q.2)) (omega (arith, q.0, q.1))
+    let b = q.3 (k.loop.i - 1) (on_entry s (k.loop.i - 1) (λ z. (tested c).if1.true (sym h ∙ z))) in
+    listing_more _ _ _ _ _ _ _ r (omega arith) _ h (tested c).if1.true (omega (arith, q.2)) (omega (arith, q.0, q.1))
     _ _ _ e.0 e.1 e.2
 
 loop-less-2 : tie.Need-loop-smaller-2 invariant-loop decreases-loop
@@ -85,7 +85,7 @@ loop-again-2 : tie.Need-loop-preserved-2 invariant-loop decreases-loop
 unfolding mark
 loop-again-2 c =
     let r = (looped c.before).loop.inv in
-    listing-less _ _ _ _ _ _ _ r (omega arith) (at_entry _ _ (omega (arith, r.room)) ∙ c.if1.false)
+    listing_less _ _ _ _ _ _ _ r (omega arith) (at_entry _ _ (omega (arith, r.room)) ∙ c.if1.false)
 
 same_length : tie.Need-same-length invariant-loop decreases-loop
 same_length c = c.before.loop.invariant.same ∙ (start c.before.before).pre.0
@@ -97,7 +97,7 @@ same-length-3 : tie.Need-same-length-3 invariant-loop decreases-loop
 same-length-3 c = c.before.loop.invariant.ended
 
 returns : tie.Need-returns invariant-loop decreases-loop
-returns c = listing-all _ _ _ _ _ _ c.before.loop.invariant (omega arith)
+returns c = listing_all _ _ _ _ _ _ c.before.loop.invariant (omega arith)
 
 pub list-sides-spec : {M : Type 1} → statement M
 list-sides-spec =

@@ -1,6 +1,6 @@
 use borrow.Author.Rules.{rules}
 use Rattle.point_darts.specs.Dart.{mark}
-use Rattle.region_darts.proofs.Listing.{put-list, put-end, keep-end}
+use Rattle.region_darts.proofs.Listing.{put_list, put_end, keep_end}
 use Rattle.region_darts.proofs.list.put_first.Statement.{statement}
 use Rattle.region_darts.proofs.list.put_first.Tie as tie
 
@@ -47,9 +47,9 @@ returns c =
     let k = (tested c).before in
     let a = (start k).args in
     let e = (asked k).get.ensures in (
-      put-list a.list.now a.first.now _ a.dart a.name _ e (linked k).put.ensures,
+      put_list a.list.now a.first.now _ a.dart a.name _ e (linked k).put.ensures,
       (put_both k).put2.ensures,
-      put-end a.first.now a.last.now a.dart a.name _ e _ (tested c).if1.true c.before.before.put3.ensures,
+      put_end a.first.now a.last.now a.dart a.name _ e _ (tested c).if1.true c.before.before.put3.ensures,
     )
 
 same-length-4 : tie.Need-same-length-4
@@ -64,9 +64,9 @@ returns-2 c =
     let k = c.before in
     let a = (start k).args in
     let e = (asked k).get.ensures in (
-      put-list a.list.now a.first.now _ a.dart a.name _ e (linked k).put.ensures,
+      put_list a.list.now a.first.now _ a.dart a.name _ e (linked k).put.ensures,
       (put_both k).put2.ensures,
-      keep-end a.first.now a.last.now a.dart a.name _ e c.if1.false,
+      keep_end a.first.now a.last.now a.dart a.name _ e c.if1.false,
     )
 
 pub put-first-spec : {M : Type 1} → statement M

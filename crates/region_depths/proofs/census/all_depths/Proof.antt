@@ -4,13 +4,13 @@ use native.Mathlib.Omega.{arith}
 use lib.ListN.{length}
 use Rattle.point_darts.specs.Dart.{mark}
 use Rattle.paper.specs.Enclosure.{depth}
-use Rattle.region_depths.specs.Census.{countedAt, counts}
-use Rattle.table_entries.proofs.Filled.{Filled, filled_none, filled_more, filled-all}
+use Rattle.region_depths.specs.Census.{counted_at, counts}
+use Rattle.table_entries.proofs.Filled.{Filled, filled_none, filled_more, filled_all}
 use Rattle.region_depths.proofs.census.all_depths.Statement.{statement}
 use Rattle.region_depths.proofs.census.all_depths.Tie as tie
 
 abbrev invariant-loop : tie.invariant-loop
-invariant-loop parent depths₀ n i₀ depths i = Filled (length parent) (countedAt depth parent) i depths₀ depths
+invariant-loop parent depths₀ n i₀ depths i = Filled (length parent) (counted_at depth parent) i depths₀ depths
 
 abbrev decreases-loop : tie.decreases-loop
 decreases-loop parent depths₀ n i₀ depths i = n - i
@@ -54,7 +54,7 @@ same_length c = c.before.loop.invariant.long ∙ sym c.before.before.before.befo
 
 returns : tie.Need-returns invariant-loop decreases-loop
 unfolding counts
-returns c = filled-all _ _ _ _ _ c.before.loop.invariant c.loop-test.false
+returns c = filled_all _ _ _ _ _ c.before.loop.invariant c.loop-test.false
 
 pub all-depths-spec : {M : Type 1} → statement M
 all-depths-spec =

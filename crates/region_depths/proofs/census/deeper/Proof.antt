@@ -2,7 +2,7 @@ use Prim.Native.Nat.{◌<◌}
 use native.Mathlib.Omega.{arith}
 use lib.ListN.{get_or}
 use Rattle.point_darts.specs.Dart.{mark}
-use Rattle.region_depths.proofs.Deepening.{deepened-outside, deepened-mark, deepened-below, deepened-fits, deepened-up}
+use Rattle.region_depths.proofs.Deepening.{deepened_outside, deepened_mark, deepened_below, deepened_fits, deepened_up}
 use borrow.Author.Rules.{rules}
 use Rattle.region_depths.proofs.census.deeper.Statement.{statement}
 use Rattle.region_depths.proofs.census.deeper.Tie as tie
@@ -13,10 +13,10 @@ start c = c.before.before.before
 
 up-below : (c : tie.Else2) → get_or (start c).args.parent.now (start c).args.name 0 < (start c).args.name
 unfolding mark
-up-below c = deepened-below _ _ _ (start c).requires c.before.before.if1.false c.if2.false
+up-below c = deepened_below _ _ _ (start c).requires c.before.before.if1.false c.if2.false
 
 returns : tie.Need-returns
-returns c = deepened-outside _ _ _ c.before.requires c.if1.true
+returns c = deepened_outside _ _ _ c.before.requires c.if1.true
 
 mul-up : tie.Need-overflow-mul-up
 mul-up c = search rules
@@ -26,7 +26,7 @@ shared-slice-read-up c = search rules
 
 returns-2 : tie.Need-returns-2
 unfolding mark
-returns-2 c = deepened-mark _ _ _ c.before.before.before.requires c.before.before.if1.false c.if2.true
+returns-2 c = deepened_mark _ _ _ c.before.before.before.requires c.before.before.if1.false c.if2.true
 
 cast-result : tie.Need-overflow-cast-result
 unfolding mark
@@ -45,13 +45,13 @@ add-result : tie.Need-overflow-add-result
 unfolding mark
 add-result c =
     let d = c.before in
-    omega (arith, deepened-fits _ _ _ (start d).requires d.before.before.if1.false d.if2.false)
+    omega (arith, deepened_fits _ _ _ (start d).requires d.before.before.if1.false d.if2.false)
 
 returns-3 : tie.Need-returns-3
 unfolding mark
 returns-3 c =
     let d = c.before in
-    deepened-up _ _ _ (start d).requires d.before.before.if1.false d.if2.false
+    deepened_up _ _ _ (start d).requires d.before.before.if1.false d.if2.false
 
 pub deeper-spec : {M : Type 1} → statement M
 deeper-spec =

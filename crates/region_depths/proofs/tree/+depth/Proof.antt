@@ -1,7 +1,7 @@
 use Prim.Native.Nat.{ℕ, ◌+◌, ◌<◌, zero-le}
 use mathlib.Core.Path.{◌∙◌, ap}
 use native.Mathlib.Omega.{arith}
-use Rattle.region_depths.proofs.Climb.{climb-known, climb-up, climb-ends}
+use Rattle.region_depths.proofs.Climb.{climb_known, climb_up, climb_ends}
 use borrow.Fn.Kinds.{In}
 use borrow.Fn.PlainCycle.{Measures, is, falls, and}
 use Rattle.region_depths.proofs.tree.depth.Reads as depth
@@ -33,7 +33,7 @@ depth-depth-requires :
 depth-depth-requires t c κs =
     let b = c.before.before.before in
     let q = b.requires.1 in
-    let k = climb-known _ q.0 _ q.1 q.2 c.if1.true in
+    let k = climb_known _ q.0 _ q.1 q.2 c.if1.true in
     (rw (← b.requires.0) c.if1.true, (q.0, omega (arith, q.1), k))
 
 depth-add-result :
@@ -45,14 +45,14 @@ depth-returns :
 depth-returns t c =
     let b = c.before.before.before.before in
     let q = b.requires.1 in
-    let u = climb-up _ q.0 _ q.1 q.2 c.before.if1.true in
+    let u = climb_up _ q.0 _ q.1 q.2 c.before.if1.true in
     (ap (λ k. k + 1) c.depth.ensures.0 ∙ u, omega arith)
 
 depth-returns-2 :
     (t : ℕ) → depth-lts.Need-returns-2 (depth_below t, depth.Post) (depth-at t) depth.Post
 depth-returns-2 t c =
     let q = c.before.before.before.requires.1 in
-    (climb-ends _ q.0 _ q.1 q.2 c.if1.false, zero-le)
+    (climb_ends _ q.0 _ q.1 q.2 c.if1.false, zero-le)
 
 pub +depth-spec : {M : Type 1} → statement M
 +depth-spec =

@@ -2,11 +2,11 @@ use mathlib.Core.Path.{◌≡◌, sym, ◌∙◌}
 use Prim.Native.Nat.{◌-◌, ◌%◌}
 use native.Mathlib.Nat.{zero-mod, mod-le}
 use native.Mathlib.Omega.{arith}
-use Rattle.sheet_size.proofs.Limit.{within-limits}
+use Rattle.sheet_size.proofs.Limit.{within_limits}
 use Rattle.paper.specs.Name.{west, north}
-use Rattle.laws.proofs.Column.{column-on, column-back}
+use Rattle.laws.proofs.Column.{column_on, column_back}
 use Rattle.point_darts.proofs.Fit.{cells_fit}
-use Rattle.table_forest.proofs.Reach.{Reached, growing, reached-none, reached-more, reached-grown, reached-least}
+use Rattle.table_forest.proofs.Reach.{Reached, growing, reached_none, reached_more, reached_grown, reached_least}
 use Rattle.region_names.proofs.cells.first_cells.Statement.{statement}
 use Rattle.region_names.proofs.cells.first_cells.Tie as tie
 
@@ -21,7 +21,7 @@ mul-n : tie.Need-overflow-mul-n invariant-loop decreases-loop
 mul-n c = omega (arith, cells_fit _ _ c.before.before.requires.0)
 
 loop-holds : tie.Need-loop-init invariant-loop decreases-loop
-loop-holds c = (reached-none _ _ _ _ c.before.before.requires.2, sym (zero-mod c.before.before.args.width))
+loop-holds c = (reached_none _ _ _ _ c.before.before.requires.2, sym (zero-mod c.before.before.args.width))
 
 grow-requires : tie.Need-grow-requires invariant-loop decreases-loop
 grow-requires c κs =
@@ -48,8 +48,8 @@ loop-again c =
     let b = c.before.before.before.before.before.before in
     let f = b.loop.invariant in
     let s = b.before.before.before in (
-      reached-more _ _ _ _ _ f.0 _ g.auto.1.1.0 (g.ensures (growing _ _ _ _ _ f.0)),
-      column-back _ (within-limits _ _ s.requires.0).width_some _ _ f.1 c.if1.true,
+      reached_more _ _ _ _ _ f.0 _ g.auto.1.1.0 (g.ensures (growing _ _ _ _ _ f.0)),
+      column_back _ (within_limits _ _ s.requires.0).width_some _ _ f.1 c.if1.true,
     )
 
 loop-less-2 : tie.Need-loop-smaller-2 invariant-loop decreases-loop
@@ -61,12 +61,12 @@ loop-again-2 c =
     let b = c.before.before.before.before.before.before in
     let f = b.loop.invariant in
     let s = b.before.before.before in (
-      reached-more _ _ _ _ _ f.0 _ g.auto.1.1.0 (g.ensures (growing _ _ _ _ _ f.0)),
-      column-on _ (within-limits _ _ s.requires.0).width_some _ _ f.1 c.if1.false,
+      reached_more _ _ _ _ _ f.0 _ g.auto.1.1.0 (g.ensures (growing _ _ _ _ _ f.0)),
+      column_on _ (within_limits _ _ s.requires.0).width_some _ _ f.1 c.if1.false,
     )
 
 flatten-requires : tie.Need-flatten-requires invariant-loop decreases-loop
-flatten-requires c κs = reached-grown _ _ _ _ _ c.before.before.loop.invariant.0 c.before.loop-test.false
+flatten-requires c κs = reached_grown _ _ _ _ _ c.before.before.loop.invariant.0 c.before.loop-test.false
 
 same_length : tie.Need-same-length invariant-loop decreases-loop
 same_length c =
@@ -76,7 +76,7 @@ same_length c =
 returns : tie.Need-returns invariant-loop decreases-loop
 returns c =
     let b = c.before.before.before.before in
-    reached-least _ _ _ _ _ b.before.loop.invariant.0 _ b.loop-test.false c.before.before.flatten.ensures
+    reached_least _ _ _ _ _ b.before.loop.invariant.0 _ b.loop-test.false c.before.before.flatten.ensures
 
 pub first-cells-spec : {M : Type 1} → statement M
 first-cells-spec =

@@ -2,7 +2,7 @@ use Prim.Native.Nat.{suc, ◌+◌, ◌-◌, ◌≤◌}
 use native.Mathlib.Omega.{arith}
 use lib.ListN.{get_or}
 use Rattle.point_darts.specs.Dart.{mark}
-use Rattle.table_entries.proofs.Rowed.{Rowing, rowing-none, rowing_more, rowing-all}
+use Rattle.table_entries.proofs.Rowed.{Rowing, rowing_none, rowing_more, rowing_all}
 use Rattle.region_names.proofs.frame.frame_row.Statement.{statement}
 use Rattle.region_names.proofs.frame.frame_row.Tie as tie
 
@@ -14,7 +14,7 @@ abbrev decreases-loop : tie.decreases-loop
 decreases-loop width first names₀ from to x₀ names x = width - x
 
 loop-holds : tie.Need-loop-init invariant-loop decreases-loop
-loop-holds c = (omega arith, rowing-none _ _ _)
+loop-holds c = (omega arith, rowing_none _ _ _)
 
 add-names : tie.Need-overflow-add-names invariant-loop decreases-loop
 add-names c = omega arith
@@ -56,7 +56,7 @@ same_length : tie.Need-same-length invariant-loop decreases-loop
 same_length c = c.before.loop.invariant.1.long
 
 returns : tie.Need-returns invariant-loop decreases-loop
-returns c = rowing-all _ _ _ _ _ _ c.before.loop.invariant.1 (omega arith)
+returns c = rowing_all _ _ _ _ _ _ c.before.loop.invariant.1 (omega arith)
 
 pub frame-row-spec : {M : Type 1} → statement M
 frame-row-spec =

@@ -3,10 +3,10 @@ use Prim.Native.Nat.{◌+◌, ◌*◌, ◌-◌, ◌≤◌, ◌<◌}
 use native.Mathlib.Omega.{arith}
 use lib.ListN.{length, length-set}
 use Rattle.point_darts.specs.Dart.{mark, points, slots, dart}
-use Rattle.point_darts.proofs.Fit.{cells_fit, points-fit}
+use Rattle.point_darts.proofs.Fit.{cells_fit, points_fit}
 use Rattle.paper.specs.Joining.{at, on}
 use Rattle.paper.specs.Enclosure.{parent}
-use Rattle.region_parents.proofs.Corner.{Parented, parented-none, corners-in, names_in, parented-row, parented-all}
+use Rattle.region_parents.proofs.Corner.{Parented, parented_none, corners_in, names_in, parented_row, parented_all}
 use Rattle.region_parents.proofs.parent.find_parents.Statement.{statement}
 use Rattle.region_parents.proofs.parent.find_parents.Tie as tie
 
@@ -23,7 +23,7 @@ module _ (l : tie.In-loop invariant-loop decreases-loop) where
   start = l.before.before.before.before.before
 
   corners : l.before.loop.corner + start.args.width < points start.args.width start.args.height
-  corners = corners-in _ _ _ _ _ _ _ _ _ l.before.loop.inv l.loop-test.taken
+  corners = corners_in _ _ _ _ _ _ _ _ _ l.before.loop.inv l.loop-test.taken
 
   names : l.before.loop.name + start.args.width ≤ start.args.width * start.args.height + 1
   names = names_in _ _ _ _ _ _ _ _ _ l.before.loop.inv l.loop-test.taken
@@ -38,7 +38,7 @@ loop-holds : tie.Need-loop-init invariant-loop decreases-loop
 unfolding mark
 loop-holds c =
     let s = c.before.before.before in
-    parented-none _ _ _ _ s.args.parents.now (omega (arith, s.requires.3))
+    parented_none _ _ _ _ s.args.parents.now (omega (arith, s.requires.3))
 
 parents-row-requires : tie.Need-parents-row-requires invariant-loop decreases-loop
 unfolding mark dart slots
@@ -46,7 +46,7 @@ parents-row-requires c κs =
     let l = c.before in
     let q = (start l).requires in (
       omega (arith, corners l, q.4),
-      omega (arith, points-fit _ _ q.0, q.4),
+      omega (arith, points_fit _ _ q.0, q.4),
       omega (arith, corners l, q.1),
       q.2,
       omega (arith, names l, long l),
@@ -56,12 +56,12 @@ parents-row-requires c κs =
 add-corner : tie.Need-overflow-add-corner invariant-loop decreases-loop
 add-corner c =
     let l = c.before.before.before.before in
-    omega (arith, corners l, points-fit _ _ (start l).requires.0)
+    omega (arith, corners l, points_fit _ _ (start l).requires.0)
 
 add-corner-2 : tie.Need-overflow-add-corner-2 invariant-loop decreases-loop
 add-corner-2 c =
     let l = c.before.before.before.before in
-    omega (arith, corners l, points-fit _ _ (start l).requires.0)
+    omega (arith, corners l, points_fit _ _ (start l).requires.0)
 
 add-name : tie.Need-overflow-add-name invariant-loop decreases-loop
 add-name c =
@@ -77,7 +77,7 @@ loop-less c = omega arith
 loop-again : tie.Need-loop-preserved invariant-loop decreases-loop
 loop-again c =
     let l = c.before.before.before.before in
-    parented-row _ _ _ _ _ _ _ _ _ l.before.loop.invariant l.loop-test.true (rw length-set (start l).requires.3) _
+    parented_row _ _ _ _ _ _ _ _ _ l.before.loop.invariant l.loop-test.true (rw length-set (start l).requires.3) _
     c.before.before.parents-row.ensures
 
 same_length : tie.Need-same-length invariant-loop decreases-loop
@@ -85,7 +85,7 @@ same_length c = rw length-set at c.before.loop.invariant.half.long
 
 returns : tie.Need-returns invariant-loop decreases-loop
 returns c =
-    parented-all _ _ _ _ _ _ _ _ _ c.before.loop.invariant (rw length-set c.before.before.before.before.before.requires.3)
+    parented_all _ _ _ _ _ _ _ _ _ c.before.loop.invariant (rw length-set c.before.before.before.before.before.requires.3)
     c.loop-test.false
 
 pub find-parents-spec : {M : Type 1} → statement M

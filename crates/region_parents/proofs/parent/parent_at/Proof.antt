@@ -5,7 +5,7 @@ use native.Mathlib.Omega.{arith}
 use lib.ListN.{length, get_or}
 use borrow.Author.Rules.{rules}
 use Rattle.point_darts.specs.Dart.{mark, dart}
-use Rattle.region_parents.proofs.Corner.{parent-unused, parent-used}
+use Rattle.region_parents.proofs.Corner.{parent_unused, parent_used}
 use Rattle.region_parents.proofs.parent.parent_at.Statement.{statement}
 use Rattle.region_parents.proofs.parent.parent_at.Tie as tie
 
@@ -80,12 +80,12 @@ returns c =
     (λ p.
     let o = p.1 in
     let u : c.larger.result ≡ get_or z.args.side.now (f.first-slot2.result + 2) 0 = omega arith in
-    u ∙ parent-used _ _ _ _ _ _ g.first_slot.ensures (first-in g) p.0.taken z.pre.4 _ f.first-slot2.ensures
+    u ∙ parent_used _ _ _ _ _ _ g.first_slot.ensures (first-in g) p.0.taken z.pre.4 _ f.first-slot2.ensures
     (back_in f))
     (λ p.
     let o = p.1 in
     let u : c.larger.result ≡ mark = omega arith in
-    u ∙ parent-unused _ _ _ _ _ _ g.first_slot.ensures (first-in g) p.0.left)
+    u ∙ parent_unused _ _ _ _ _ _ g.first_slot.ensures (first-in g) p.0.left)
     c.before.before.if1.branch
 
 pub parent-at-spec : {M : Type 1} → statement M

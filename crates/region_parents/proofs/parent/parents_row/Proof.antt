@@ -1,20 +1,20 @@
 use Prim.Native.Nat.{◌+◌, ◌-◌, ◌≤◌}
 use native.Mathlib.Omega.{arith}
 use Rattle.point_darts.specs.Dart.{mark, dart}
-use Rattle.table_entries.proofs.Rowed.{Rowing, rowing-none, rowing_more, rowing-all}
-use Rattle.region_parents.specs.Corner.{parentFrom}
+use Rattle.table_entries.proofs.Rowed.{Rowing, rowing_none, rowing_more, rowing_all}
+use Rattle.region_parents.specs.Corner.{parent_from}
 use Rattle.region_parents.proofs.parent.parents_row.Statement.{statement}
 use Rattle.region_parents.proofs.parent.parents_row.Tie as tie
 
 abbrev invariant-loop : tie.invariant-loop
 invariant-loop width side tops parents₀ corner name x₀ parents x =
-    (x ≤ width) × Rowing (λ i. parentFrom width side tops (corner + i) (name + i)) name x parents₀ parents
+    (x ≤ width) × Rowing (λ i. parent_from width side tops (corner + i) (name + i)) name x parents₀ parents
 
 abbrev decreases-loop : tie.decreases-loop
 decreases-loop width side tops parents₀ corner name x₀ parents x = width - x
 
 loop-holds : tie.Need-loop-init invariant-loop decreases-loop
-loop-holds c = (omega arith, rowing-none _ _ _)
+loop-holds c = (omega arith, rowing_none _ _ _)
 
 add-parent-at : tie.Need-overflow-add-parent-at invariant-loop decreases-loop
 unfolding mark dart
@@ -58,7 +58,7 @@ same_length : tie.Need-same-length invariant-loop decreases-loop
 same_length c = c.before.loop.invariant.1.long
 
 returns : tie.Need-returns invariant-loop decreases-loop
-returns c = rowing-all _ _ _ _ _ _ c.before.loop.invariant.1 (omega arith)
+returns c = rowing_all _ _ _ _ _ _ c.before.loop.invariant.1 (omega arith)
 
 pub parents-row-spec : {M : Type 1} → statement M
 parents-row-spec =

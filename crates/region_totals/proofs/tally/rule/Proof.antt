@@ -3,8 +3,8 @@ use mathlib.Core.Path.{◌≡◌, sym, ◌∙◌}
 use Prim.Native.Nat.{◌-◌, ◌≤◌}
 use native.Mathlib.Omega.{arith}
 use Rattle.point_darts.specs.Dart.{mark}
-use Rattle.region_totals.specs.Tally.{name_at, linesAt, Ruled}
-use Rattle.region_totals.proofs.Tallying.{ruled-more}
+use Rattle.region_totals.specs.Tally.{name_at, lines_at, Ruled}
+use Rattle.region_totals.proofs.Tallying.{ruled_more}
 use Rattle.region_totals.proofs.tally.rule.Statement.{statement}
 use Rattle.region_totals.proofs.tally.rule.Tie as tie
 
@@ -73,12 +73,12 @@ loop-less : tie.Need-loop-smaller invariant-loop decreases-loop
 loop-less c = omega arith
 
 loop-again : tie.Need-loop-preserved invariant-loop decreases-loop
-unfolding linesAt name_at
+unfolding lines_at name_at
 loop-again c =
     let l = c.before.before.before.before.before in
     let i = l.loop.invariant in
     let t = c.before.before.before.before.loop-test.true in
-    (ruled-more _ _ _ _ _ _ _ t l.before.before.before.requires.2 c.lines_of.ensures.0 i.0, omega arith)
+    (ruled_more _ _ _ _ _ _ _ t l.before.before.before.requires.2 c.lines_of.ensures.0 i.0, omega arith)
 
 same_length : tie.Need-same-length invariant-loop decreases-loop
 same_length c = c.before.loop.invariant.0.long ∙ sym c.before.before.before.before.requires.3.long

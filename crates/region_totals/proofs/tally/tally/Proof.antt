@@ -3,7 +3,7 @@ use Prim.Native.Nat.{◌*◌, ◌≤◌}
 use native.Mathlib.Omega.{arith}
 use borrow.Author.Rules.{rules}
 use Rattle.table_entries.proofs.Front.{front_long, front_kept}
-use Rattle.region_totals.proofs.Tallying.{ruled-none, tallied-none}
+use Rattle.region_totals.proofs.Tallying.{ruled_none, tallied_none}
 use Rattle.region_totals.proofs.tally.tally.Statement.{statement}
 use Rattle.region_totals.proofs.tally.tally.Tie as tie
 
@@ -51,7 +51,7 @@ rule-requires c κs =
       q.1,
       q.2,
       q.3,
-      ruled-none _ _ _ _ l k.new.0 (front_kept _ _ l q.6 t k.new.0 k.auto.0) (front_long _ _ l q.6 t) k.ensures,
+      ruled_none _ _ _ _ l k.new.0 (front_kept _ _ l q.6 t k.new.0 k.auto.0) (front_long _ _ l q.6 t) k.ensures,
     )
 
 tally-points-requires : tie.Need-tally-points-requires
@@ -64,7 +64,7 @@ tally-points-requires c κs =
       q.1,
       q.2,
       q.3,
-      tallied-none _ _ _ _ _ _ _ r.rule.ensures (rw q.4 at k.clear.ensures) (rw q.5 at b.clear2.ensures),
+      tallied_none _ _ _ _ _ _ _ r.rule.ensures (rw q.4 at k.clear.ensures) (rw q.5 at b.clear2.ensures),
     )
 
 same_length : tie.Need-same-length

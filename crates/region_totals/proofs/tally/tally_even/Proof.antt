@@ -3,7 +3,7 @@ use native.Mathlib.Omega.{arith}
 use borrow.Author.Rules.{rules}
 use Rattle.point_darts.specs.Dart.{mark}
 use Rattle.region_totals.specs.Tally.{name_at}
-use Rattle.region_totals.proofs.Tallying.{lines-most, room-cells, room-lines, even-more}
+use Rattle.region_totals.proofs.Tallying.{lines_most, room_cells, room_lines, even_more}
 use Rattle.region_totals.proofs.tally.tally_even.Statement.{statement}
 use Rattle.region_totals.proofs.tally.tally_even.Tie as tie
 
@@ -44,7 +44,7 @@ add-requires c κs =
     let q = s.requires in
     let t = q.5 in
     let v = q.0 (s.args.p + (s.args.width + 2)) in
-    (omega (arith, v, t.long-cells), omega (arith, room-cells _ _ _ _ _ _ _ _ t v, q.2, q.4))
+    (omega (arith, v, t.long_cells), omega (arith, room_cells _ _ _ _ _ _ _ _ t v, q.2, q.4))
 
 add-requires-2 : tie.Need-add-requires-2
 unfolding mark name_at
@@ -53,12 +53,12 @@ add-requires-2 c κs =
     let q = s.requires in
     let t = q.5 in
     let v = q.0 (s.args.p + (s.args.width + 2)) in (
-      omega (arith, v, t.long-borders),
+      omega (arith, v, t.long_borders),
       omega (
         arith,
-        room-lines _ _ _ _ _ _ _ _ t v,
+        room_lines _ _ _ _ _ _ _ _ t v,
         t.lines _ q.4,
-        lines-most s.args.width s.args.round.now s.args.p,
+        lines_most s.args.width s.args.round.now s.args.p,
         q.2,
         q.4,
       ),
@@ -79,7 +79,7 @@ returns c =
     let q = s.requires in
     let t = q.5 in
     let v = q.0 (s.args.p + (s.args.width + 2)) in
-    rw (e.add.ensures, d.add2.ensures) (even-more _ _ _ _ _ _ _ _ t v _ (t.lines _ q.4))
+    rw (e.add.ensures, d.add2.ensures) (even_more _ _ _ _ _ _ _ _ t v _ (t.lines _ q.4))
 
 pub tally-even-spec : {M : Type 1} → statement M
 tally-even-spec =

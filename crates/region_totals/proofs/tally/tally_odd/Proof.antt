@@ -3,7 +3,7 @@ use native.Mathlib.Omega.{arith}
 use borrow.Author.Rules.{rules}
 use Rattle.point_darts.specs.Dart.{mark}
 use Rattle.region_totals.specs.Tally.{name_at}
-use Rattle.region_totals.proofs.Tallying.{lines-most, room-cells, room-past, odd-more}
+use Rattle.region_totals.proofs.Tallying.{lines_most, room_cells, room_past, odd_more}
 use Rattle.region_totals.proofs.tally.tally_odd.Statement.{statement}
 use Rattle.region_totals.proofs.tally.tally_odd.Tie as tie
 
@@ -44,7 +44,7 @@ add-requires c κs =
     let q = s.requires in
     let t = q.5.tallied in
     let v = q.0 (s.args.p + (s.args.width + 2)) in
-    (omega (arith, v, q.3, t.long-odd), omega (arith, room-cells _ _ _ _ _ _ _ _ t v, q.2, q.4))
+    (omega (arith, v, q.3, t.long_odd), omega (arith, room_cells _ _ _ _ _ _ _ _ t v, q.2, q.4))
 
 add-add : tie.Need-overflow-add-add
 unfolding mark
@@ -60,13 +60,13 @@ add-requires-2 c κs =
     let t = q.5.tallied in
     let v = q.0 (s.args.p + (s.args.width + 2)) in
     let d = c.before.before.before in (
-      omega (arith, v, q.3, d.add.auto.0, t.long-odd),
+      omega (arith, v, q.3, d.add.auto.0, t.long_odd),
       rw d.add.ensures
           (omega (
             arith,
-            room-past _ _ _ _ _ _ _ _ t v,
+            room_past _ _ _ _ _ _ _ _ t v,
             t.lines _ q.4,
-            lines-most s.args.width s.args.round.now s.args.p,
+            lines_most s.args.width s.args.round.now s.args.p,
             q.2,
             q.4,
           )),
@@ -82,7 +82,7 @@ returns c b e t =
     let s = c.before.before.before.before.before.before.before.before.before.before.before.before in
     let q = s.requires in
     let v = q.0 (s.args.p + (s.args.width + 2)) in
-    rw (d.add2.ensures, d.before.before.before.before.add.ensures) (odd-more _ _ _ _ _ _ _ _ t v _ (t.lines _ q.4) q.3)
+    rw (d.add2.ensures, d.before.before.before.before.add.ensures) (odd_more _ _ _ _ _ _ _ _ t v _ (t.lines _ q.4) q.3)
 
 pub tally-odd-spec : {M : Type 1} → statement M
 tally-odd-spec =

@@ -70,17 +70,17 @@ tally-even-requires-2 c κs =
 same_length : tie.Need-same-length invariant-loop decreases-loop
 same_length c =
     let e = c.before.before.before.before in
-    e.tally-even2.ensures.long-cells ∙ sym (start (left e)).pre.4.long-cells
+    e.tally-even2.ensures.long_cells ∙ sym (start (left e)).pre.4.long_cells
 
 same-length-2 : tie.Need-same-length-2 invariant-loop decreases-loop
 same-length-2 c =
     let e = c.before.before.before.before in
-    e.tally-even2.ensures.long-borders ∙ sym (start (left e)).pre.4.long-borders
+    e.tally-even2.ensures.long_borders ∙ sym (start (left e)).pre.4.long_borders
 
 same-length-3 : tie.Need-same-length-3 invariant-loop decreases-loop
 same-length-3 c =
     let l = left c.before.before.before.before in
-    l.loop.inv.0.long-odd ∙ sym (start l).pre.4.long-odd
+    l.loop.inv.0.long_odd ∙ sym (start l).pre.4.long_odd
 
 returns : tie.Need-returns invariant-loop decreases-loop
 returns c =
@@ -93,17 +93,17 @@ returns c =
 same-length-4 : tie.Need-same-length-4 invariant-loop decreases-loop
 same-length-4 c =
     let l = c.before.before in
-    l.loop.invariant.0.long-cells ∙ sym (start l).requires.4.long-cells
+    l.loop.invariant.0.long_cells ∙ sym (start l).requires.4.long_cells
 
 same-length-5 : tie.Need-same-length-5 invariant-loop decreases-loop
 same-length-5 c =
     let l = c.before.before in
-    l.loop.invariant.0.long-borders ∙ sym (start l).requires.4.long-borders
+    l.loop.invariant.0.long_borders ∙ sym (start l).requires.4.long_borders
 
 same-length-6 : tie.Need-same-length-6 invariant-loop decreases-loop
 same-length-6 c =
     let l = c.before.before in
-    l.loop.invariant.0.long-odd ∙ sym (start l).requires.4.long-odd
+    l.loop.invariant.0.long_odd ∙ sym (start l).requires.4.long_odd
 
 returns-2 : tie.Need-returns-2 invariant-loop decreases-loop
 returns-2 c =

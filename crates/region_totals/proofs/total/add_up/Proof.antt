@@ -4,8 +4,8 @@ use Prim.Native.Nat.{◌-◌, ◌<◌, ◌≤◌}
 use native.Mathlib.Omega.{arith}
 use lib.ListN.{length}
 use Rattle.point_darts.specs.Dart.{mark}
-use Rattle.table_entries.proofs.Half.{half-all}
-use Rattle.region_totals.proofs.Adding.{AddedUp, added_none, added-fits, added_more}
+use Rattle.table_entries.proofs.Half.{half_all}
+use Rattle.region_totals.proofs.Adding.{AddedUp, added_none, added_fits, added_more}
 use Rattle.region_totals.proofs.total.add_up.Statement.{statement}
 use Rattle.region_totals.proofs.total.add_up.Tie as tie
 
@@ -40,7 +40,7 @@ add-sum c =
     let i = l.loop.invariant in
     let t : l.loop.r < length (start l).args.cells.now =
     omega (arith, c.before.before.loop-test.true, i.1) in
-    omega (arith, (added-fits _ _ _ _ _ _ i.0 _ i.1 (start l).requires.3 t).0)
+    omega (arith, (added_fits _ _ _ _ _ _ i.0 _ i.1 (start l).requires.3 t).0)
 
 mul-lines : tie.Need-overflow-mul-lines invariant-loop decreases-loop
 mul-lines c = search rules
@@ -64,7 +64,7 @@ add-lines-2 c =
     let i = l.loop.invariant in
     let t : l.loop.r < length (start l).args.cells.now =
     omega (arith, c.before.before.before.before.loop-test.true, i.1) in
-    omega (arith, (added-fits _ _ _ _ _ _ i.0 _ i.1 (start l).requires.3 t).1)
+    omega (arith, (added_fits _ _ _ _ _ _ i.0 _ i.1 (start l).requires.3 t).1)
 
 where-some-requires : tie.Need-where-some-requires invariant-loop decreases-loop
 where-some-requires c κs = tt
@@ -113,8 +113,8 @@ returns c =
     let i = l.loop.invariant in
     let q = (start l).requires in
     let t : length (start l).args.cells.now ≤ l.loop.r = omega (arith, c.loop-test.false, i.1) in (
-      half-all _ _ _ _ _ i.0.cells refl t,
-      half-all _ _ _ _ _ i.0.borders q.0 (omega (arith, q.0, t)),
+      half_all _ _ _ _ _ i.0.cells refl t,
+      half_all _ _ _ _ _ i.0.borders q.0 (omega (arith, q.0, t)),
     )
 
 pub add-up-spec : {M : Type 1} → statement M

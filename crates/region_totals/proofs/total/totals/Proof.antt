@@ -2,8 +2,8 @@ use mathlib.Core.Path.{refl, sym, ◌∙◌}
 use native.Mathlib.Omega.{arith}
 use lib.ListN.{length-set}
 use borrow.Author.Rules.{rules}
-use Rattle.region_totals.proofs.Paper.{totals-all}
-use Rattle.region_totals.proofs.Tallying.{tallied-small, cells-points, four-fit, four-slots}
+use Rattle.region_totals.proofs.Paper.{totals_all}
+use Rattle.region_totals.proofs.Tallying.{tallied_small, cells_points, four_fit, four_slots}
 use Rattle.region_totals.proofs.total.totals.Statement.{statement}
 use Rattle.region_totals.proofs.total.totals.Tie as tie
 
@@ -31,11 +31,11 @@ tally-requires c κs =
     let q = s.pre in (
       rw q.3 q.2,
       rw (← e) at q.1,
-      four-fit _ _ _ q.0 e,
-      omega (arith, q.3, cells-points s.args.width s.args.height, e),
+      four_fit _ _ _ q.0 e,
+      omega (arith, q.3, cells_points s.args.width s.args.height, e),
       refl,
       q.4 ∙ sym q.3,
-      four-slots _ _ _ _ e q.5,
+      four_slots _ _ _ _ e q.5,
     )
 
 add-up-requires : tie.Need-add-up-requires
@@ -45,11 +45,11 @@ add-up-requires c κs =
     let s = start p in
     let e = p.points.ensures in
     let t = a.tally.ensures in
-    let f = four-fit _ _ _ s.pre.0 e in (
-      t.long-borders ∙ sym t.long-cells,
-      omega (arith, t.long-cells, t.long-odd, s.pre.3, cells-points s.args.width s.args.height, e),
-      omega (arith, t.long-odd, f),
-      tallied-small _ _ _ _ _ _ _ t f,
+    let f = four_fit _ _ _ s.pre.0 e in (
+      t.long_borders ∙ sym t.long_cells,
+      omega (arith, t.long_cells, t.long_odd, s.pre.3, cells_points s.args.width s.args.height, e),
+      omega (arith, t.long_odd, f),
+      tallied_small _ _ _ _ _ _ _ t f,
     )
 
 slice-write-cells : tie.Need-slice-write-cells
@@ -58,7 +58,7 @@ slice-write-cells c = search rules
 same_length : tie.Need-same-length
 same_length c =
     let u = c.before.before.before.before in
-    simp length-set (u.add-up.auto.0 ∙ (tallied u).tally.ensures.long-cells)
+    simp length-set (u.add-up.auto.0 ∙ (tallied u).tally.ensures.long_cells)
 
 same-length-2 : tie.Need-same-length-2
 same-length-2 c = search rules
@@ -72,7 +72,7 @@ returns c =
     let a = tallied u in
     let p = sized a in
     let t = a.tally.ensures in
-    totals-all _ _ _ _ _ _ _ _ _ _ t p.points.ensures (start p).pre.3 t.long-cells u.add-up.ensures.0 u.add-up.ensures.1
+    totals_all _ _ _ _ _ _ _ _ _ _ t p.points.ensures (start p).pre.3 t.long_cells u.add-up.ensures.0 u.add-up.ensures.1
 
 pub totals-spec : {M : Type 1} → statement M
 totals-spec =

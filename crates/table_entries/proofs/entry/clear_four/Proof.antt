@@ -1,4 +1,4 @@
-use Rattle.table_entries.proofs.Cleared.{cleared-four}
+use Rattle.table_entries.proofs.Cleared.{cleared_four}
 use borrow.Author.Rules.{rules}
 use Rattle.table_entries.proofs.entry.clear_four.Statement.{statement}
 use Rattle.table_entries.proofs.entry.clear_four.Tie as tie
@@ -29,7 +29,7 @@ same-length-4 c = search rules
 
 returns : tie.Need-returns
 returns c =
-    cleared-four _ _ _ _ _ _ _ _ c.before.before.before.before.before.before.before.before.before.before.before.before.before.before.clear.ensures c.before.before.before.before.before.before.before.before.before.before.clear2.ensures c.before.before.before.before.before.before.clear3.ensures
+    cleared_four _ _ _ _ _ _ _ _ c.before.before.before.before.before.before.before.before.before.before.before.before.before.before.clear.ensures c.before.before.before.before.before.before.before.before.before.before.clear2.ensures c.before.before.before.before.before.before.clear3.ensures
     c.before.before.clear4.ensures
 
 pub clear-four-spec : {M : Type 1} → statement M

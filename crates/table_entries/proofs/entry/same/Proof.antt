@@ -1,7 +1,7 @@
 use mathlib.Core.Path.{◌≡◌, refl}
 use Prim.Native.Nat.{◌-◌}
 use native.Mathlib.Omega.{arith}
-use Rattle.table_entries.proofs.Same.{agreed, agreed-more, same-all, same-short}
+use Rattle.table_entries.proofs.Same.{agreed, agreed_more, same_all, same_short}
 use Rattle.table_entries.proofs.entry.same.Statement.{statement}
 use Rattle.table_entries.proofs.entry.same.Tie as tie
 
@@ -12,7 +12,7 @@ abbrev decreases-loop : tie.decreases-loop
 decreases-loop left right n agree₀ i₀ agree i = n - i
 
 returns : tie.Need-returns invariant-loop decreases-loop
-returns c = same-short _ _ c.if1.true
+returns c = same_short _ _ c.if1.true
 
 loop-holds : tie.Need-loop-init invariant-loop decreases-loop
 unfolding agreed
@@ -37,10 +37,10 @@ loop-less : tie.Need-loop-smaller invariant-loop decreases-loop
 loop-less c = omega arith
 
 loop-again : tie.Need-loop-preserved invariant-loop decreases-loop
-loop-again c = agreed-more _ _ _ _ c.before.before.before.loop.invariant
+loop-again c = agreed_more _ _ _ _ c.before.before.before.loop.invariant
 
 returns-2 : tie.Need-returns-2 invariant-loop decreases-loop
-returns-2 c = same-all _ _ _ _ c.before.loop.invariant c.before.before.if1.false c.loop-test.false
+returns-2 c = same_all _ _ _ _ c.before.loop.invariant c.before.before.if1.false c.loop-test.false
 
 pub same_spec : {M : Type 1} → statement M
 same_spec =

@@ -1,5 +1,5 @@
 use native.Mathlib.Nat.{le_refl}
-use Rattle.table_entries.proofs.Entries.{trim-entry}
+use Rattle.table_entries.proofs.Entries.{trim_entry}
 use Rattle.table_entries.specs.Trim.{trimmed}
 use mathlib.Core.Path.{refl}
 use mathlib.Core.Bool.{cond}
@@ -9,7 +9,7 @@ use Rattle.paper.specs.Joining.{at, on}
 use Rattle.point_darts.specs.Dart.{mark}
 use native.Mathlib.Omega.{arith}
 use borrow.Author.Rules.{rules}
-use Rattle.table_entries.proofs.Filled.{Filled, filled_none, filled_more, filled-all}
+use Rattle.table_entries.proofs.Filled.{Filled, filled_none, filled_more, filled_all}
 use Rattle.table_entries.proofs.entry.trim.Statement.{statement}
 use Rattle.table_entries.proofs.entry.trim.Tie as tie
 
@@ -53,7 +53,7 @@ loop-again : tie.Need-loop-preserved invariant-loop decreases-loop
 loop-again c =
     let s = c.before.before.before.before.before.before.before in
     let f = c.before.before.before.before.loop.invariant in
-    filled_more _ _ _ _ _ f _ c.before.before.before.loop-test.true (trim-entry s.args.links.now s.args.table.now c.before.before.before.before.loop.table _ _ (omega (
+    filled_more _ _ _ _ _ f _ c.before.before.before.loop-test.true (trim_entry s.args.links.now s.args.table.now c.before.before.before.before.loop.table _ _ (omega (
       arith,
       s.requires,
       c.before.before.before.loop-test.true,
@@ -64,7 +64,7 @@ same_length c = c.before.loop.invariant.long
 
 returns : tie.Need-returns invariant-loop decreases-loop
 unfolding trimmed
-returns c = filled-all _ _ _ _ _ c.before.loop.invariant (omega arith)
+returns c = filled_all _ _ _ _ _ c.before.loop.invariant (omega arith)
 
 pub trim-spec : {M : Type 1} → statement M
 trim-spec =

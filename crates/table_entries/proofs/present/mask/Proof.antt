@@ -1,6 +1,6 @@
 use native.Mathlib.Omega.{arith}
 use Rattle.point_darts.specs.Dart.{dart}
-use Rattle.table_entries.proofs.Masked.{read-dart}
+use Rattle.table_entries.proofs.Masked.{read_dart}
 use borrow.Author.Rules.{rules}
 use Rattle.table_entries.proofs.present.mask.Statement.{statement}
 use Rattle.table_entries.proofs.present.mask.Tie as tie
@@ -59,8 +59,8 @@ returns : tie.Need-returns
 unfolding dart
 returns c =
     let e = c.before.before.before.before.before.first_slot.ensures in
-    c.mask-of.ensures _ _ (read-dart _ _ 0 _ (omega arith) (omega arith)) (read-dart _ _ 1 _ (omega arith) (omega arith))
-    (read-dart _ _ 2 _ (omega arith) (omega arith)) (read-dart _ _ 3 _ (omega arith) (omega arith))
+    c.mask-of.ensures _ _ (read_dart _ _ 0 _ (omega arith) (omega arith)) (read_dart _ _ 1 _ (omega arith) (omega arith))
+    (read_dart _ _ 2 _ (omega arith) (omega arith)) (read_dart _ _ 3 _ (omega arith) (omega arith))
 
 pub mask-spec : {M : Type 1} → statement M
 mask-spec =

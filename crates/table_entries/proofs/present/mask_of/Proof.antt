@@ -1,5 +1,5 @@
 use native.Mathlib.Omega.{arith}
-use Rattle.table_entries.proofs.Masked.{mask-sum}
+use Rattle.table_entries.proofs.Masked.{mask_sum}
 use Rattle.table_entries.proofs.present.mask_of.Statement.{statement}
 use Rattle.table_entries.proofs.present.mask_of.Tie as tie
 
@@ -26,7 +26,7 @@ add-result-3 c = omega arith
 
 returns : tie.Need-returns
 returns c =
-    mask-sum _ _ _ _ _ _ _ _ c.before.before.before.where-on.ensures.0 c.before.before.where-on2.ensures.0
+    mask_sum _ _ _ _ _ _ _ _ c.before.before.before.where_on.ensures.0 c.before.before.where-on2.ensures.0
     c.before.where-on3.ensures.0 c.where-on4.ensures.0
 
 pub mask-of-spec : {M : Type 1} → statement M

@@ -2,12 +2,12 @@ use native.Mathlib.Omega.{arith}
 use Rattle.table_forest.proofs.Label.{
   Halved,
   halved_none,
-  halved-again,
-  halved-less,
-  halved-found,
-  halved-long,
-  halved-room,
-  halved-up,
+  halved_again,
+  halved_less,
+  halved_found,
+  halved_long,
+  halved_room,
+  halved_up,
 }
 use Rattle.table_forest.proofs.nodes.find.Statement.{statement}
 use Rattle.table_forest.proofs.nodes.find.Tie as tie
@@ -28,25 +28,25 @@ mul-up : tie.Need-overflow-mul-up invariant-loop decreases-loop
 mul-up c = omega arith
 
 slice-read-up : tie.Need-slice-read-up invariant-loop decreases-loop
-slice-read-up c = halved-room _ _ _ _ c.before.loop.invariant c.before.before.requires
+slice-read-up c = halved_room _ _ _ _ c.before.loop.invariant c.before.before.requires
 
 same_length : tie.Need-same-length invariant-loop decreases-loop
-same_length c = halved-long _ _ _ _ c.before.before.loop.invariant c.before.before.before.requires
+same_length c = halved_long _ _ _ _ c.before.before.loop.invariant c.before.before.before.requires
 
 returns : tie.Need-returns invariant-loop decreases-loop
-returns c p = halved-found _ _ _ _ c.before.before.loop.invariant p c.if1.true
+returns c p = halved_found _ _ _ _ c.before.before.loop.invariant p c.if1.true
 
 cast-past : tie.Need-overflow-cast-past invariant-loop decreases-loop
-cast-past c = omega (arith, halved-up _ _ _ _ c.before.before.loop.invariant c.before.before.before.requires)
+cast-past c = omega (arith, halved_up _ _ _ _ c.before.before.loop.invariant c.before.before.before.requires)
 
 mul-past : tie.Need-overflow-mul-past invariant-loop decreases-loop
-mul-past c = omega (arith, halved-up _ _ _ _ c.before.before.loop.invariant c.before.before.before.requires)
+mul-past c = omega (arith, halved_up _ _ _ _ c.before.before.loop.invariant c.before.before.before.requires)
 
 slice-read-past : tie.Need-slice-read-past invariant-loop decreases-loop
 slice-read-past c =
     let b = c.before.before.before in
     let p = b.before.requires in
-    omega (arith, halved-up _ _ _ _ b.loop.invariant p, halved-room _ _ _ _ b.loop.invariant p)
+    omega (arith, halved_up _ _ _ _ b.loop.invariant p, halved_room _ _ _ _ b.loop.invariant p)
 
 cast-nodes : tie.Need-overflow-cast-nodes invariant-loop decreases-loop
 cast-nodes c = omega arith
@@ -56,17 +56,17 @@ mul-nodes c = omega arith
 
 slice-write-nodes : tie.Need-slice-write-nodes invariant-loop decreases-loop
 slice-write-nodes c =
-    halved-room _ _ _ _ c.before.before.before.loop.invariant c.before.before.before.before.requires
+    halved_room _ _ _ _ c.before.before.before.loop.invariant c.before.before.before.before.requires
 
 loop-less : tie.Need-loop-smaller invariant-loop decreases-loop
 loop-less c =
     let b = c.before.before.before in
-    halved-less _ _ _ _ b.loop.invariant b.before.requires c.before.if1.false
+    halved_less _ _ _ _ b.loop.invariant b.before.requires c.before.if1.false
 
 loop-again : tie.Need-loop-preserved invariant-loop decreases-loop
 loop-again c =
     let b = c.before.before.before in
-    halved-again _ _ _ _ b.loop.invariant b.before.requires
+    halved_again _ _ _ _ b.loop.invariant b.before.requires
 
 pub find_spec : {M : Type 1} → statement M
 find_spec =

@@ -7,13 +7,13 @@ use lib.ListN.{length, length-set}
 use Rattle.laws.specs.Least.{tie}
 use Rattle.table_forest.specs.Forest.{Forest}
 use Rattle.table_forest.proofs.Label.{
-  led-planted,
-  found-planted,
-  roots-room,
-  tied-alike,
+  led_planted,
+  found_planted,
+  roots_room,
+  tied_alike,
   tied,
-  instead-le,
-  tied-instead,
+  instead_le,
+  tied_instead,
 }
 use Rattle.table_forest.proofs.nodes.plant.Statement.{statement}
 use Rattle.table_forest.proofs.nodes.plant.Tie as tie
@@ -33,16 +33,16 @@ module _ (s : tie.After-instead2) where
   begun = s.before.before.before
 
   first-le : s.before.instead.result ≤ begun.args.i
-  first-le = instead-le _ _ _ _ begun.pre.2 begun.pre.3 s.before.instead.ensures
+  first-le = instead_le _ _ _ _ begun.pre.2 begun.pre.3 s.before.instead.ensures
 
   second-le : s.instead2.result ≤ begun.args.i
-  second-le = instead-le _ _ _ _ begun.pre.3 begun.pre.2 s.instead2.ensures
+  second-le = instead_le _ _ _ _ begun.pre.3 begun.pre.2 s.instead2.ensures
 
   -- a node tied with the two that were chosen is tied with the two that were given
   as-given : (l t : List ℕ) → let i = begun.args.i in
       Forest (suc i) (tie i s.instead2.result (tie i s.before.instead.result l)) t
       → Forest (suc i) (tie i begun.args.k (tie i begun.args.j l)) t
-  as-given l t = tied-instead _ _ _ _ _ _ l t s.before.instead.ensures s.instead2.ensures
+  as-given l t = tied_instead _ _ _ _ _ _ l t s.before.instead.ensures s.instead2.ensures
 
 -- the table keeps its length
 linked_long : (w : tie.After-link)
@@ -93,20 +93,20 @@ same_length c = search rules
 returns : tie.Need-returns
 returns c g =
     let s = c.before.before.before in
-    as-given s _ _ (tied-alike _ _ _ _ g (begun s).requires.1 (first-le s) (second-le s) c.if1.true)
+    as-given s _ _ (tied_alike _ _ _ _ g (begun s).requires.1 (first-le s) (second-le s) c.if1.true)
 
 find-requires : tie.Need-find-requires
 find-requires c κs =
     let s = c.before.before.before.before in
-    led-planted _ _ _ _ (begun s).requires.0 (begun s).requires.1 (first-le s) (second-le s)
+    led_planted _ _ _ _ (begun s).requires.0 (begun s).requires.1 (first-le s) (second-le s)
 
 find-requires-2 : tie.Need-find-requires-2
 find-requires-2 c κs =
     let f = c.before.before.before in
     let s = chosen f in
     let (g, h, _, _) = (begun s).pre in
-    found-planted _ _ _ _ g h (first-le s) (second-le s) _ _
-    (f.find.ensures (led-planted _ _ _ _ g h (first-le s) (second-le s)))
+    found_planted _ _ _ _ g h (first-le s) (second-le s) _ _
+    (f.find.ensures (led_planted _ _ _ _ g h (first-le s) (second-le s)))
 
 link-requires : tie.Need-link-requires
 link-requires c κs =
@@ -114,9 +114,9 @@ link-requires c κs =
     let f = first_found e in
     let s = chosen f in
     let (g, h, _, _) = (begun s).pre in
-    let x = f.find.ensures (led-planted _ _ _ _ g h (first-le s) (second-le s)) in
-    let y = e.find2.ensures (found-planted _ _ _ _ g h (first-le s) (second-le s) _ _ x) in
-    roots-room _ _ _ _ g h (first-le s) (second-le s) _ _ x _ _ y
+    let x = f.find.ensures (led_planted _ _ _ _ g h (first-le s) (second-le s)) in
+    let y = e.find2.ensures (found_planted _ _ _ _ g h (first-le s) (second-le s) _ _ x) in
+    roots_room _ _ _ _ g h (first-le s) (second-le s) _ _ x _ _ y
 
 mul-nodes-3 : tie.Need-overflow-mul-nodes-3
 mul-nodes-3 c = search rules
@@ -134,8 +134,8 @@ returns-2 c g =
     let f = first_found e in
     let s = chosen f in
     let h = (begun s).pre.1 in
-    let x = f.find.ensures (led-planted _ _ _ _ g h (first-le s) (second-le s)) in
-    let y = e.find2.ensures (found-planted _ _ _ _ g h (first-le s) (second-le s) _ _ x) in
+    let x = f.find.ensures (led_planted _ _ _ _ g h (first-le s) (second-le s)) in
+    let y = e.find2.ensures (found_planted _ _ _ _ g h (first-le s) (second-le s) _ _ x) in
     as-given s _ _
     (tied _ _ _ _ g h (first-le s) (second-le s) _ _ x _ _ y _ _ w.link.ensures.0 w.link.ensures.1)
 

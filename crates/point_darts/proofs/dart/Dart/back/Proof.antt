@@ -2,7 +2,7 @@ use mathlib.Core.Path.{◌∙◌}
 use native.Mathlib.Omega.{arith}
 use borrow.Author.Rules.{rules}
 use Rattle.point_darts.specs.Dart.{mark, point, beside, far, reversal}
-use Rattle.point_darts.proofs.Darts.{direction-below}
+use Rattle.point_darts.proofs.Darts.{direction_below}
 use Rattle.point_darts.proofs.Back.{back_fits}
 use Rattle.point_darts.proofs.dart.Dart.back.Statement.{statement}
 use Rattle.point_darts.proofs.dart.Dart.back.Tie as tie
@@ -18,7 +18,7 @@ unfolding mark point
 beside-requires c κs = omega (arith, c.point.ensures)
 
 opposite-requires : tie.Need-opposite-requires
-opposite-requires c κs = rw c.before.before.direction.ensures (direction-below _)
+opposite-requires c κs = rw c.before.before.direction.ensures (direction_below _)
 
 leaving-requires : tie.Need-leaving-requires
 unfolding reversal far

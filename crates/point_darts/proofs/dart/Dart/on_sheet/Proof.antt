@@ -1,9 +1,9 @@
 use mathlib.Core.Path.{sym, ◌∙◌}
 use native.Mathlib.Omega.{arith}
 use borrow.Author.Tests.{not-true, not-false}
-use Rattle.sheet_size.proofs.Limit.{within-limits}
+use Rattle.sheet_size.proofs.Limit.{within_limits}
 use borrow.Author.Rules.{rules}
-use Rattle.point_darts.proofs.Rows.{off-rows, on-rows}
+use Rattle.point_darts.proofs.Rows.{off_rows, on_rows}
 use Rattle.point_darts.proofs.dart.Dart.on_sheet.Statement.{statement}
 use Rattle.point_darts.proofs.dart.Dart.on_sheet.Tie as tie
 
@@ -19,7 +19,7 @@ point-requires c κs = search rules
 add_row : tie.Need-overflow-add-row
 add_row c =
     let w = c.before.before in
-    omega (arith, within-limits _ _ (sym w.within.ensures ∙ not-false w.within.result c.before.if1.false))
+    omega (arith, within_limits _ _ (sym w.within.ensures ∙ not-false w.within.result c.before.if1.false))
 
 div-if2 : tie.Need-nonzero-div-if2
 div-if2 c = search rules
@@ -27,7 +27,7 @@ div-if2 c = search rules
 returns-2 : tie.Need-returns-2
 returns-2 c =
     let w = c.before.before.before in
-    off-rows _ _ _ _ (sym w.within.ensures ∙ not-false _ c.before.before.if1.false) c.before.point.ensures c.if2.true
+    off_rows _ _ _ _ (sym w.within.ensures ∙ not-false _ c.before.before.if1.false) c.before.point.ensures c.if2.true
 
 rem-stays : tie.Need-nonzero-rem-stays
 rem-stays c = search rules
@@ -44,7 +44,7 @@ stays-requires c κs = search rules
 returns-3 : tie.Need-returns-3
 returns-3 c =
     let w = c.before.before.before.before.before in
-    on-rows _ _ _ _ (sym w.within.ensures ∙ not-false _ c.before.before.before.before.if1.false)
+    on_rows _ _ _ _ (sym w.within.ensures ∙ not-false _ c.before.before.before.before.if1.false)
     c.before.before.before.point.ensures c.before.before.if2.false _ c.before.direction.ensures _ c.stays.ensures
 
 pub on-sheet-spec : {M : Type 1} → statement M

@@ -3,7 +3,7 @@ use native.Mathlib.Omega.{arith}
 use borrow.Author.Rules.{rules}
 use borrow.Author.Tests.{not-true, not-false}
 use Rattle.point_darts.specs.Dart.{mark, point, reversed}
-use Rattle.point_darts.proofs.Back.{on-sheet, back}
+use Rattle.point_darts.proofs.Back.{on_sheet, back}
 use Rattle.point_darts.proofs.dart.Dart.reversal.Statement.{statement}
 use Rattle.point_darts.proofs.dart.Dart.reversal.Tie as tie
 
@@ -12,17 +12,17 @@ on-sheet-requires c κs = search rules
 
 returns : tie.Need-returns
 unfolding mark reversed
-returns c = rw (← c.before.on-sheet.ensures, not-true c.before.on-sheet.result c.if1.true)
+returns c = rw (← c.before.on_sheet.ensures, not-true c.before.on_sheet.result c.if1.true)
 
 back-requires : tie.Need-back-requires
 unfolding mark point
 back-requires c κs =
-    omega (arith, on-sheet _ _ _ (sym c.before.on-sheet.ensures ∙ not-false c.before.on-sheet.result c.if1.false))
+    omega (arith, on_sheet _ _ _ (sym c.before.on_sheet.ensures ∙ not-false c.before.on_sheet.result c.if1.false))
 
 returns-2 : tie.Need-returns-2
 returns-2 c =
     let o = c.before.before in
-    c.back.ensures ∙ back _ _ _ (sym o.on-sheet.ensures ∙ not-false o.on-sheet.result c.before.if1.false)
+    c.back.ensures ∙ back _ _ _ (sym o.on_sheet.ensures ∙ not-false o.on_sheet.result c.before.if1.false)
 
 pub reversal-spec : {M : Type 1} → statement M
 reversal-spec = tie.close (tie.spec on-sheet-requires returns back-requires returns-2)
