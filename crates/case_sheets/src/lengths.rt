@@ -3,14 +3,14 @@ ghost use Rattle.case_sheets.specs.Room.{Fits};
 use crate::lent;
 
 // The width and the height of a case.
-#[derive(Drop)]
+#[derive(Clone, Copy)]
 pub struct Size {
     pub width: u16,
     pub height: u16,
 }
 
 // How long the seven tables and the four work tables of a case are.
-#[derive(Drop)]
+#[derive(Clone, Copy)]
 pub struct Lengths {
     pub next1: usize,
     pub side1: usize,

@@ -4,7 +4,7 @@ use case_sheets::lent;
 use table_entries::entry;
 
 // The seven tables of a drawing, each with room for the longest.
-#[derive(Drop)]
+#[derive(Clone, Copy)]
 pub struct Tables {
     pub next1: [u16; lent::ROOM],
     pub side1: [u16; lent::ROOM],
@@ -16,7 +16,7 @@ pub struct Tables {
 }
 
 // Four work tables, each with room for the longest.
-#[derive(Drop)]
+#[derive(Clone, Copy)]
 pub struct Works {
     pub a: [u16; lent::ROOM],
     pub b: [u16; lent::ROOM],
@@ -25,7 +25,7 @@ pub struct Works {
 }
 
 // What a call answered: its number, and the tables after it.
-#[derive(Drop)]
+#[derive(Clone, Copy)]
 pub struct Answered {
     pub number: u16,
     pub tables: Tables,

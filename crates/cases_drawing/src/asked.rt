@@ -11,14 +11,14 @@ use count_call::{count, turns};
 use point_darts::dart;
 
 // What the check answered: its number, and the work tables after it.
-#[derive(Drop)]
+#[derive(Clone, Copy)]
 pub struct Checked {
     pub number: u16,
     pub works: Works,
 }
 
 // What a call that fills two tables answered: the number, and the tables after it.
-#[derive(Drop)]
+#[derive(Clone, Copy)]
 pub struct Filled {
     pub number: u16,
     pub first: [u16; lent::ROOM],
@@ -27,7 +27,7 @@ pub struct Filled {
 }
 
 // What the count of a name answered: the number, the count, which is the mark for a refusal, and the work tables after it.
-#[derive(Drop)]
+#[derive(Clone, Copy)]
 pub struct Counted {
     pub number: u16,
     pub count: u16,

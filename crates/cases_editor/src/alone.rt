@@ -9,7 +9,7 @@ use point_darts::dart;
 use table_entries::entry;
 
 // What the tables by name say of a region.
-#[derive(Drop)]
+#[derive(Clone, Copy)]
 pub struct Region {
     pub present: bool,
     pub cells: u16,

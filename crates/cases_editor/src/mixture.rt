@@ -15,7 +15,7 @@ use table_entries::entry;
 pub const ALL: u16 = 0;
 
 // What some calls leave: the reply to each at its place, the region of each cell, and the tables by name.
-#[derive(Drop)]
+#[derive(Clone, Copy)]
 pub struct Left {
     pub replies: [u16; 8192],
     pub regions: [u16; 8192],

@@ -6,7 +6,7 @@ use case_tables::tables::{Answered, Tables, Works};
 use case_tables::{show, tables};
 
 // What an editor asks: that two names are joined.
-#[derive(Drop)]
+#[derive(Clone, Copy)]
 pub struct Call {
     pub editor: u16,
     pub first: u16,
@@ -14,7 +14,7 @@ pub struct Call {
 }
 
 // The reply to a call: its number, and the tables after it.
-#[derive(Drop)]
+#[derive(Clone, Copy)]
 pub struct Reply {
     pub number: u16,
     pub tables: Tables,

@@ -8,7 +8,7 @@ use join_call::list;
 use join_list::each::Listed;
 
 // What a list answered, and the tables after it.
-#[derive(Drop)]
+#[derive(Clone, Copy)]
 pub struct Joined {
     pub answer: Listed,
     pub tables: Tables,

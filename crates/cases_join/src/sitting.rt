@@ -11,14 +11,14 @@ use point_darts::dart::Dart;
 use table_entries::entry;
 
 // How a sitting goes: after how many joins each the tables are compared, and how far it is from a dart to the next.
-#[derive(Drop)]
+#[derive(Clone, Copy)]
 pub struct Pace {
     pub every: u16,
     pub stride: u16,
 }
 
 // The names on the two sides of a dart.
-#[derive(Drop)]
+#[derive(Clone, Copy)]
 pub struct Sides {
     pub right: u16,
     pub left: u16,

@@ -7,7 +7,7 @@ use case_tables::{show, tables};
 use table_entries::entry;
 
 // The width, the height and the level of a case.
-#[derive(Drop)]
+#[derive(Clone, Copy)]
 pub struct Case {
     pub width: u16,
     pub height: u16,
@@ -15,7 +15,7 @@ pub struct Case {
 }
 
 // How long the result and work tables of a case are.
-#[derive(Drop)]
+#[derive(Clone, Copy)]
 pub struct Lengths {
     pub next: usize,
     pub other: usize,
@@ -27,7 +27,7 @@ pub struct Lengths {
 }
 
 // What drawing a level answered: the refusal's number, and the tables after it.
-#[derive(Drop)]
+#[derive(Clone, Copy)]
 pub struct Answered {
     pub number: u16,
     pub next: [u16; lent::ROOM],

@@ -13,7 +13,7 @@ use region_depths::tree;
 use table_entries::entry;
 
 // What a count answers: the number, or what is refused.
-#[derive(Drop)]
+#[derive(Clone, Copy)]
 pub enum Count {
     Is(u16),
     Refused(Answer),

@@ -16,7 +16,7 @@ use point_rules::turn::Turn;
 use table_entries::{entry, present};
 
 // How many right turns and left turns a run takes.
-#[derive(Drop)]
+#[derive(Clone, Copy)]
 struct Turns {
     right: u16,
     left: u16,

@@ -2,7 +2,7 @@ ghost use Rattle.std.specs.Prelude.{◌≡◌};
 ghost use Rattle.deck_card.specs.Outcome.{write_number};
 
 // What reading a deck answers.
-#[derive(Drop)]
+#[derive(Clone, Copy)]
 pub enum Read {
     // The size of the sheet.
     Sheet { width: u16, height: u16 },
@@ -11,7 +11,7 @@ pub enum Read {
 }
 
 // What writing a deck answers: done, or what is refused.
-#[derive(Drop)]
+#[derive(Clone, Copy)]
 pub enum Written {
     Done,
     // The width or the height is not 1 to the greatest.

@@ -9,7 +9,7 @@ use point_darts::dart::Dart;
 use point_rules::turn;
 
 // The first and the last dart of a level that leave a point.
-#[derive(Drop)]
+#[derive(Clone, Copy)]
 pub struct Ends {
     pub first: u16,
     pub last: u16,

@@ -18,7 +18,7 @@ use region_names::frame;
 use table_forest::nodes;
 
 // Where a list stops: what is answered there, and how many entries were joined.
-#[derive(Drop)]
+#[derive(Clone, Copy)]
 pub struct End {
     pub answer: Answer,
     pub place: u16,

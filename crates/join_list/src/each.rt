@@ -20,7 +20,7 @@ use join_groups::group::End;
 use join_rule::apply;
 
 // What joining by a list answers.
-#[derive(Drop)]
+#[derive(Clone, Copy)]
 pub enum Listed {
     Done,
     // What is refused, and the place of the entry, counted from 0; 0 also where it is no entry that is refused.

@@ -58,7 +58,7 @@ module _ {f : ℕ → ℕ} {stop : ℕ → Bool} where
   count_is {t} {m = m} (end {d = d} s) l = count_stop f stop t m d s
   count_is {m = zero} (step s r) l = absurd (omega arith)
   count_is {t} {m = suc m} (step {d = d} s r) l =
-      count_go f stop t m d s ∙ ap (λ c. number (t d) + c) (count_is r (le_of_suc-le-suc l))
+      count_go f stop t m d s ∙ ap (λ c. number (t d) + c) (count_is {m = m} r (le_of_suc-le-suc l))
 
   -- a map and tests that agree with those of a run, where P holds, have the same steps
   module _ (P : ℕ → Type 0) (stays : (x : ℕ) → P x → stop x ≡ false → P (f x)) where

@@ -87,7 +87,7 @@ module _ {f : ℕ → ℕ} {stop : ℕ → Bool} where
   pub run_is : {m k d e : ℕ} → Run f stop k d e → k ≤ m → run f stop m d ≡ e
   run_is {m = m} (here {d = d} s) l = run_stop f stop m d s
   run_is {m = zero} (more s r) l = absurd (omega arith)
-  run_is {m = suc m} (more {d = d} s r) l = run_go f stop m d s ∙ run_is r (le_of_suc-le-suc l)
+  run_is {m = suc m} (more {d = d} s r) l = run_go f stop m d s ∙ run_is {m = m} r (le_of_suc-le-suc l)
 
   -- the end is k steps ahead, and passes the test
   pub run_end : {k d e : ℕ} → Run f stop k d e → e ≡ times f k d

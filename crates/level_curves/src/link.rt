@@ -9,7 +9,7 @@ use point_darts::dart::Dart;
 use table_entries::entry;
 
 // The last dart of a run, and the dart after it.
-#[derive(Drop)]
+#[derive(Clone, Copy)]
 struct Run {
     dart: u16,
     after: u16,

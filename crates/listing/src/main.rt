@@ -28,7 +28,7 @@ const SLOTS: usize = 4 * (WIDEST + 1) * (TALLEST + 1);
 const BYTES: usize = LONG * (2 * TALLEST + 1) + 1;
 
 // The seven tables of a drawing, each with room for the largest.
-#[derive(Drop)]
+#[derive(Clone, Copy)]
 struct Tables {
     next1: [u16; SLOTS],
     side1: [u16; SLOTS],
@@ -40,7 +40,7 @@ struct Tables {
 }
 
 // What the counts answered: the refusal's number, depth and hole count of each name.
-#[derive(Drop)]
+#[derive(Clone, Copy)]
 struct Counted {
     number: u16,
     depths: [u16; SLOTS],
@@ -48,7 +48,7 @@ struct Counted {
 }
 
 // The right turns and the left turns of each dart of level 3.
-#[derive(Drop)]
+#[derive(Clone, Copy)]
 struct Turned {
     right: [u16; SLOTS],
     left: [u16; SLOTS],

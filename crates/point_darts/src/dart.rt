@@ -7,7 +7,7 @@ ghost use Rattle.point_darts.specs.Dart.{reversal, reversed};
 pub const MARK: u16 = 65535;
 
 // A unit line that leaves a point, by its number: 4 times the point, plus the direction.
-#[derive(Drop)]
+#[derive(Clone, Copy)]
 pub struct Dart {
     pub number: u16,
 }
@@ -44,7 +44,7 @@ pub fn opposite(direction: u16) -> u16
 }
 
 // A number for each direction, of the lines or the darts that leave a point.
-#[derive(Drop)]
+#[derive(Clone, Copy)]
 pub struct Four {
     pub east: u16,
     pub south: u16,

@@ -26,7 +26,7 @@ const POINT_TABLE: [u16; 256] = [
 ];
 
 // The turn that is taken at a point into the line that follows.
-#[derive(Drop)]
+#[derive(Clone, Copy)]
 pub enum Turn {
     Right,
     Straight,
@@ -37,7 +37,7 @@ pub enum Turn {
 }
 
 // The line that follows at a point, and the turn that leads to it.
-#[derive(Drop)]
+#[derive(Clone, Copy)]
 pub struct NextLine {
     pub direction: u16,
     pub turn: Turn,

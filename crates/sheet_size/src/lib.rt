@@ -1,4 +1,6 @@
 // The limits of a sheet: how wide and how high it may be.
+#![tactic(auto)]
+
 ghost use Rattle.std.specs.Prelude.{◌≡◌};
 ghost use Rattle.sheet_size.specs.Size.{within};
 
