@@ -6,6 +6,7 @@
 // Written are the refusal's number and the values. Of a read that is refused: 'kept' where the table is untouched. Of a
 // sheet that was read: its labels, 'kept' where the rest of the table is 0, the number of writing it again, and 'kept'
 // where that gave the same deck. Of a sheet that was written: the bytes, which are dots before.
+#![tactic(auto)]
 mod tried;
 
 use case_files::{file, text};

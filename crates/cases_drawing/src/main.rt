@@ -12,6 +12,7 @@
 // what the counts of all names answer, and for the labels of a case also what the counts of one name answer for each.
 // Of seven tables: what the check, the counts of all names, and depth and hole count of the name answer.
 // 'kept' is written where the tables of a refusal are as they were, and 'kept' or 'cleared' of the work tables.
+#![tactic(auto)]
 mod asked;
 mod given;
 mod tried;

@@ -14,6 +14,7 @@
 // editor a line that starts with 'alone': that editor's calls are made without the other's. It has what they answer and 'same'
 // where they answer so among the other's too; each cell's region, or 0 where it is not the editor's, and 'same' again; and of each
 // region of the editor's the name, how many cells and border lines it has, and 'same' again.
+#![tactic(auto)]
 mod alone;
 mod mixture;
 mod one;

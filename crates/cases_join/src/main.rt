@@ -14,6 +14,7 @@
 // or 'changed' of the tables, and 'kept' or 'cleared' of the work tables; after that of L the seven tables. Of a sitting,
 // after so many joins each and after the last: how many were done, how many regions are left, whether the tables are those
 // drawn afresh, and their sums.
+#![tactic(auto)]
 mod listed;
 mod one;
 mod sitting;

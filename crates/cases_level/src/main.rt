@@ -8,6 +8,7 @@
 // Written is the refusal's number. Of a level that was drawn: next, other and side, in full for the labels of a case and
 // else their sums, and 'cleared' where the work tables are all 0. Of a refusal: 'kept' where the result tables are as they
 // were, and again for the work tables.
+#![tactic(auto)]
 mod tried;
 
 use case_files::{file, text};

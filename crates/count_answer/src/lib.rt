@@ -1,4 +1,5 @@
 // What a count answers after a check of the drawing.
+#![tactic(auto)]
 ghost use Rattle.std.specs.Prelude.{◌≡◌};
 ghost use Rattle.region_depths.specs.Tree.{known};
 ghost use Rattle.paper.specs.Enclosure.{depth, holes};

@@ -1,2 +1,3 @@
 // The turns of the curves of a drawing.
+#![tactic(auto)]
 pub mod turns;

@@ -1,1 +1,2 @@
 // Mathematics that knows nothing of sheets: tables of numbers, the least node reachable.
+#![tactic(auto)]

@@ -1,4 +1,5 @@
 // The level drawing: the tables of levels 0 to 3 of a sheet.
+#![tactic(auto)]
 mod along;
 pub mod draw;
 mod fill;

@@ -1,2 +1,3 @@
 // Pieces of lines: the top of the piece of each point.
+#![tactic(auto)]
 pub mod points;

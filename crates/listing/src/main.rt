@@ -1,5 +1,6 @@
 // Lists the sheet of the deck on standard input: a line for the sheet, then a line for each region and for each edge of
 // level 3. A deck that is refused is answered by one line, with the number of the refusal and of the card.
+#![tactic(auto)]
 mod lines;
 mod text;
 

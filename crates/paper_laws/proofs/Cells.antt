@@ -50,7 +50,7 @@ module _ (w h : ℕ) (n : List ℕ) where
 -- renaming the cells, the outside keeping its name 0, renames both hands
 module _ (w h : ℕ) (n : List ℕ) (f : ℕ → ℕ) (z : f 0 ≡ 0) where
   get_d_map : (i : ℕ) → get_or (map f n) i 0 ≡ f (get_or n i 0)
-  get_d_map i = rw z at (ListN.get_d_map f n i 0)
+  get_d_map i = rw z at (ListN.get_or-map f n i 0)
 
   cond_map : (b : Bool) (i : ℕ) → cond b (get_or (map f n) i 0) 0 ≡ f (cond b (get_or n i 0) 0)
   cond_map true i = get_d_map i

@@ -1,2 +1,3 @@
 // Enclosure: each region's parent.
+#![tactic(auto)]
 pub mod parent;

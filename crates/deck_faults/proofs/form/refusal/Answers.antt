@@ -1,0 +1,42 @@
+use mathlib.Core.Bool.{cond}
+use mathlib.Core.Path.{◌≡◌}
+use borrow.Author.Tests.{eq-eqb, ne_eqb}
+use Rattle.deck_card.specs.Card.{columns, places}
+use Rattle.deck_faults.specs.Fault.{form}
+use Rattle.deck_faults.proofs.Forms.{bears_is}
+use Rattle.deck_faults.proofs.form.refusal.Goals.{After-agrees}
+use Rattle.deck_faults.proofs.form.refusal.Goals.at as at
+use Rattle.deck_faults.proofs.form.refusal.Goals as goal
+
+-- what is left to judge: the number
+decided : (c : After-agrees)
+    → let s = c.args in
+    form s.number s.card.now ≡ cond c.agrees.result 0 22
+unfolding columns places form
+decided c =
+    simp (
+      ne_eqb _ _ c.if-card-eq0.false,
+      ← c.whole.ensures,
+      c.if-not-whole.false,
+      bears_is,
+      ← c.agrees.ensures,
+    )
+
+pub returns-then-card-eq0 : goal.returns-then-card-eq0
+unfolding form
+returns-then-card-eq0 c = simp (eq-eqb _ _ c.if-card-eq0.true)
+
+pub returns-then-not-whole : goal.returns-then-not-whole
+unfolding form
+returns-then-not-whole c =
+    simp (
+      ne_eqb _ _ c.if-card-eq0.false,
+      ← c.whole.ensures,
+      c.if-not-whole.true,
+    )
+
+pub returns-then-not-agrees : goal.returns-then-not-agrees
+returns-then-not-agrees c = rw (decided (at.returns-then-not-agrees c).After-agrees, c.if-not-agrees.true)
+
+pub returns : goal.returns
+returns c = rw (decided (at.returns c).After-agrees, c.if-not-agrees.false)

@@ -1,0 +1,17 @@
+use mathlib.Core.Path.{sym}
+use lib.Seq.{length-take-le}
+use Rattle.deck_card.specs.Card.{columns, places, long}
+use Rattle.deck_writing.proofs.write.put_header.Goals as goal
+
+pub slice_bounds-put-end : goal.slice_bounds-put-end
+unfolding columns places long
+slice_bounds-put-end c = c.requires
+
+pub slice_bounds-put-end-2 : goal.slice_bounds-put-end-2
+unfolding columns places long
+slice_bounds-put-end-2 c =
+    sym (length-take-le long c.args.deck.now c.requires)
+
+pub returns : goal.returns
+unfolding columns places long
+returns c = rw (c.put.ensures, c.heading-content.ensures)

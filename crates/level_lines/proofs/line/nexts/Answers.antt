@@ -1,0 +1,291 @@
+use mathlib.Core.Path.{sym, ◌∙◌}
+use Prim.Native.Nat.{ℕ, ◌+◌, ◌*◌, ◌-◌, ◌≤◌, ◌<◌}
+use native.Mathlib.Omega.{arith}
+use lib.ListN.{length}
+use Rattle.point_darts.specs.Dart.{mark, dart}
+use Rattle.paper.specs.Level.{marked}
+use Rattle.point_darts.proofs.Fit.{point_fits}
+use Rattle.table_entries.proofs.Entries.{at_out}
+use Rattle.table_entries.proofs.Passed.{Passed, passed_none, passed_room, passed_more, passed_so_far, passed_all}
+use Rattle.level_lines.specs.Line.{onward, entry_of, nexts}
+use Rattle.level_lines.proofs.Pointing.{beside_fit, next_beside, lines_in, two_rows}
+use Rattle.level_lines.proofs.line.nexts.Goals.{After-points-n, In-loop-p, In-loop-p-2, In-loop-p-3, After-loop-p-3}
+use Rattle.level_lines.proofs.line.nexts.Goals.at as at
+use Rattle.level_lines.proofs.line.nexts.Goals as goal
+
+-- What is known of the size and the tables before the loops.
+module _ (a : After-points-n) where
+
+  rows_in : a.args.width + 1 + (a.args.width + 1) ≤ a.points-n.result
+  rows_in = omega (arith, a.points-n.ensures, two_rows _ _ a.requires.0)
+
+  point-0 : 0 < a.points-n.result
+  point-0 = omega (arith, rows_in)
+
+  none : Passed a.args.width a.args.height
+      (entry_of a.args.masks.now (onward a.args.width a.args.masks.now)) 0 a.args.next.now
+      a.args.next.now
+  none = passed_none _ _ _ _ a.requires.2
+
+  module _ (p : ℕ) (b : p < a.points-n.result) where
+    point-in : p < length a.args.masks.now
+    point-in = omega (arith, a.requires.1, a.points-n.ensures)
+
+    fits : dart p 3 + 4 * (a.args.width + 2) < mark
+    fits = point_fits _ _ a.requires.0 _ a.points-n.ensures p b
+
+    far-fits : p + (a.args.width + 1) < 65535
+    unfolding mark dart
+    far-fits = omega (arith, fits)
+
+-- The point at hand in the first row, in the rows between, and in the last.
+module _ (l : In-loop-p) where
+
+  south-in : l.loop-p.p + (l.args.width + 1) < l.points-n.result
+  south-in = omega (arith, rows_in (at.In-loop-p l).After-points-n, l.loop-p-test.true)
+
+  inside : l.loop-p.p + 1 < l.points-n.result
+  inside = omega (arith, south-in)
+
+  here : l.loop-p.p < l.points-n.result
+  here = omega (arith, inside)
+
+  near : l.loop-p.p + (l.args.width + 1) < 65535
+  near = far-fits (at.In-loop-p l).After-points-n _ here
+
+module _ (l : In-loop-p-2) where
+
+  south-in2 : l.loop-p-2.p + (l.args.width + 1) < l.points-n.result
+  south-in2 = omega (arith, l.loop-p-2-test.true)
+
+  inside2 : l.loop-p-2.p + 1 < l.points-n.result
+  inside2 = omega (arith, south-in2)
+
+  here2 : l.loop-p-2.p < l.points-n.result
+  here2 = omega (arith, inside2)
+
+  near2 : l.loop-p-2.p + (l.args.width + 1) < 65535
+  near2 = far-fits (at.In-loop-p-2 l).After-points-n _ here2
+
+module _ (l : In-loop-p-3) where
+
+  inside3 : l.loop-p-3.p + 1 < l.points-n.result
+  inside3 = omega (arith, l.loop-p-3-test.true)
+
+  here3 : l.loop-p-3.p < l.points-n.result
+  here3 = omega (arith, inside3)
+
+  near3 : l.loop-p-3.p + (l.args.width + 1) < 65535
+  near3 = far-fits (at.In-loop-p-3 l).After-points-n _ here3
+
+  north-in3 : l.args.width + 1 ≤ l.loop-p-3.p
+  north-in3 = omega (arith, rows_in (at.In-loop-p-3 l).After-points-n, l.loop-p-3.invariant.1)
+
+-- The last point.
+module _ (e : After-loop-p-3) where
+
+  last : e.loop-p-3.p < e.points-n.result
+  last = omega (arith, e.loop-p-3.invariant.2)
+
+pub points-n-requires : goal.points-n-requires
+points-n-requires c = c.requires.0
+
+pub overflow_add-row : goal.overflow_add-row
+overflow_add-row c = omega (arith, rows_in c)
+
+pub next_at-requires : goal.next_at-requires
+next_at-requires c =
+    let b = point-0 (at.next_at-requires c).After-points-n in
+    (point-in (at.next_at-requires c).After-points-n _ b, fits (at.next_at-requires c).After-points-n _ b, passed_room _ _ _ _ c.points-n.ensures _ _ _ (none (at.next_at-requires c).After-points-n) b)
+
+pub loop-p-init : goal.loop-p-init
+loop-p-init c =
+    (
+      passed_so_far _ _ _ _ _ _
+          (passed_more _ _ _ _ c.points-n.ensures _ _ _ (none (at.loop-p-init c).After-points-n) (point-0 (at.loop-p-init c).After-points-n) _ c.next_at.ensures),
+      omega arith,
+      omega arith,
+    )
+
+pub besides-far-requires : goal.besides-far-requires
+besides-far-requires c = omega (arith, near c)
+
+pub overflow_add-p : goal.overflow_add-p
+overflow_add-p c = omega (arith, near (at.overflow_add-p c).In-loop-p)
+
+pub overflow_cast-p : goal.overflow_cast-p
+overflow_cast-p c = omega (arith, near (at.overflow_cast-p c).In-loop-p)
+
+pub offset_bounds-masks-p : goal.offset_bounds-masks-p
+offset_bounds-masks-p c = omega (arith, near (at.offset_bounds-masks-p c).In-loop-p)
+
+pub bounds-masks-p : goal.bounds-masks-p
+bounds-masks-p c = point-in (at.bounds-masks-p c).After-points-n _ (omega (arith, south-in (at.bounds-masks-p c).In-loop-p))
+
+pub bounds-masks-0 : goal.bounds-masks-0
+bounds-masks-0 c = point-in (at.bounds-masks-0 c).After-points-n _ (omega (arith, inside (at.bounds-masks-0 c).In-loop-p))
+
+pub lines_beside-lines-requires : goal.lines_beside-lines-requires
+lines_beside-lines-requires c = (c.loop-p.invariant.1, point-in (at.lines_beside-lines-requires c).After-points-n _ (inside (at.lines_beside-lines-requires c).In-loop-p))
+
+pub follow_four-requires : goal.follow_four-requires
+follow_four-requires c =
+    beside_fit _ _ _ _ _ _ (fits (at.follow_four-requires c).After-points-n _ (here (at.follow_four-requires c).In-loop-p)) c.besides-far.ensures
+
+pub put_present-requires : goal.put_present-requires
+put_present-requires c =
+    (point-in (at.put_present-requires c).After-points-n _ (here (at.put_present-requires c).In-loop-p), passed_room _ _ _ _ c.points-n.ensures _ _ _ c.loop-p.invariant.0 (here (at.put_present-requires c).In-loop-p))
+
+pub overflow_add-p-in-loop-p : goal.overflow_add-p-in-loop-p
+overflow_add-p-in-loop-p c = omega (arith, near (at.overflow_add-p-in-loop-p c).In-loop-p)
+
+pub loop-p-smaller : goal.loop-p-smaller
+loop-p-smaller c = omega (arith, inside (at.loop-p-smaller c).In-loop-p)
+
+pub loop-p-preserved : goal.loop-p-preserved
+loop-p-preserved c =
+    let m = c.args.masks.now in
+    let (r, i, k) = c.loop-p.invariant in (
+      passed_more _ _ _ _ c.points-n.ensures _ _ _ r (here (at.loop-p-preserved c).In-loop-p) _
+          (next_beside _ _ _ _ c.besides-far.ensures c.follow_four.ensures
+          c.put_present.ensures c.lines_beside-lines.ensures
+          (lines_in m _ _ (omega arith) (point-in (at.loop-p-preserved c).After-points-n _ (south-in (at.loop-p-preserved c).In-loop-p)))
+          (lines_in m _ _ (omega arith) (point-in (at.loop-p-preserved c).After-points-n _ (point-0 (at.loop-p-preserved c).After-points-n)))),
+      omega arith,
+      omega (arith, c.loop-p-test.true),
+    )
+
+pub loop-p-2-init : goal.loop-p-2-init
+loop-p-2-init c =
+    let (r, i, k) = c.loop-p.invariant in
+    (passed_so_far _ _ _ _ _ _ r, c.loop-p-test.false, omega (arith, rows_in (at.loop-p-2-init c).After-points-n))
+
+pub overflow_sub-n : goal.overflow_sub-n
+overflow_sub-n c = omega (arith, rows_in (at.overflow_sub-n c).After-points-n)
+
+pub besides-far-requires-in-loop-p-2 : goal.besides-far-requires-in-loop-p-2
+besides-far-requires-in-loop-p-2 c = omega (arith, near2 c)
+
+pub overflow_add-south : goal.overflow_add-south
+overflow_add-south c = omega (arith, near2 (at.overflow_add-south c).In-loop-p-2)
+
+pub overflow_cast-south : goal.overflow_cast-south
+overflow_cast-south c = omega (arith, near2 (at.overflow_cast-south c).In-loop-p-2)
+
+pub offset_bounds-masks-p-in-loop-p-2 : goal.offset_bounds-masks-p-in-loop-p-2
+offset_bounds-masks-p-in-loop-p-2 c = omega (arith, near2 (at.offset_bounds-masks-p-in-loop-p-2 c).In-loop-p-2)
+
+pub bounds-masks-p-in-loop-p-2 : goal.bounds-masks-p-in-loop-p-2
+bounds-masks-p-in-loop-p-2 c = point-in (at.bounds-masks-p-in-loop-p-2 c).After-points-n _ (omega (arith, south-in2 (at.bounds-masks-p-in-loop-p-2 c).In-loop-p-2))
+
+pub overflow_sub-north : goal.overflow_sub-north
+overflow_sub-north c = omega (arith, c.loop-p-2.invariant.1)
+
+pub overflow_cast-north : goal.overflow_cast-north
+overflow_cast-north c = omega (arith, near2 (at.overflow_cast-north c).In-loop-p-2)
+
+pub offset_bounds-masks-p-in-loop-p-2-2 : goal.offset_bounds-masks-p-in-loop-p-2-2
+offset_bounds-masks-p-in-loop-p-2-2 c = omega (arith, near2 (at.offset_bounds-masks-p-in-loop-p-2-2 c).In-loop-p-2)
+
+pub bounds-masks-p-in-loop-p-2-2 : goal.bounds-masks-p-in-loop-p-2-2
+bounds-masks-p-in-loop-p-2-2 c = point-in (at.bounds-masks-p-in-loop-p-2-2 c).After-points-n _ (omega (arith, inside2 (at.bounds-masks-p-in-loop-p-2-2 c).In-loop-p-2))
+
+pub lines_beside-lines-requires-in-loop-p-2 : goal.lines_beside-lines-requires-in-loop-p-2
+lines_beside-lines-requires-in-loop-p-2 c =
+    (omega (arith, c.loop-p-2.invariant.1), point-in (at.lines_beside-lines-requires-in-loop-p-2 c).After-points-n _ (inside2 (at.lines_beside-lines-requires-in-loop-p-2 c).In-loop-p-2))
+
+pub follow_four-requires-in-loop-p-2 : goal.follow_four-requires-in-loop-p-2
+follow_four-requires-in-loop-p-2 c =
+    beside_fit _ _ _ _ _ _ (fits (at.follow_four-requires-in-loop-p-2 c).After-points-n _ (here2 (at.follow_four-requires-in-loop-p-2 c).In-loop-p-2)) c.besides-far-in-loop-p-2.ensures
+
+pub put_present-requires-in-loop-p-2 : goal.put_present-requires-in-loop-p-2
+put_present-requires-in-loop-p-2 c =
+    (point-in (at.put_present-requires-in-loop-p-2 c).After-points-n _ (here2 (at.put_present-requires-in-loop-p-2 c).In-loop-p-2), passed_room _ _ _ _ c.points-n.ensures _ _ _ c.loop-p-2.invariant.0 (here2 (at.put_present-requires-in-loop-p-2 c).In-loop-p-2))
+
+pub overflow_add-p-in-loop-p-2 : goal.overflow_add-p-in-loop-p-2
+overflow_add-p-in-loop-p-2 c = omega (arith, near2 (at.overflow_add-p-in-loop-p-2 c).In-loop-p-2)
+
+pub loop-p-2-smaller : goal.loop-p-2-smaller
+loop-p-2-smaller c = omega (arith, inside2 (at.loop-p-2-smaller c).In-loop-p-2)
+
+pub loop-p-2-preserved : goal.loop-p-2-preserved
+loop-p-2-preserved c =
+    let m = c.args.masks.now in
+    let (r, i, k) = c.loop-p-2.invariant in (
+      passed_more _ _ _ _ c.points-n.ensures _ _ _ r (here2 (at.loop-p-2-preserved c).In-loop-p-2) _
+          (next_beside _ _ _ _ c.besides-far-in-loop-p-2.ensures c.follow_four-in-loop-p-2.ensures
+          c.put_present-in-loop-p-2.ensures c.lines_beside-lines-in-loop-p-2.ensures
+          (lines_in m _ _ (omega arith) (point-in (at.loop-p-2-preserved c).After-points-n _ (south-in2 (at.loop-p-2-preserved c).In-loop-p-2)))
+          (lines_in m _ _ (omega arith) (point-in (at.loop-p-2-preserved c).After-points-n _ (omega (arith, here2 (at.loop-p-2-preserved c).In-loop-p-2))))),
+      omega arith,
+      omega (arith, south-in2 (at.loop-p-2-preserved c).In-loop-p-2),
+    )
+
+pub loop-p-3-init : goal.loop-p-3-init
+loop-p-3-init c =
+    let (r, i, k) = c.loop-p-2.invariant in
+    (passed_so_far _ _ _ _ _ _ r, omega (arith, c.loop-p-2-test.false), omega arith)
+
+pub overflow_sub-n-in-loop-p-3 : goal.overflow_sub-n-in-loop-p-3
+overflow_sub-n-in-loop-p-3 c = omega (arith, rows_in (at.overflow_sub-n-in-loop-p-3 c).After-points-n)
+
+pub besides-far-requires-in-loop-p-3 : goal.besides-far-requires-in-loop-p-3
+besides-far-requires-in-loop-p-3 c = omega (arith, near3 c)
+
+pub overflow_sub-p : goal.overflow_sub-p
+overflow_sub-p c = north-in3 (at.overflow_sub-p c).In-loop-p-3
+
+pub overflow_cast-p-in-loop-p-3 : goal.overflow_cast-p-in-loop-p-3
+overflow_cast-p-in-loop-p-3 c = omega (arith, near3 (at.overflow_cast-p-in-loop-p-3 c).In-loop-p-3)
+
+pub offset_bounds-masks-p-in-loop-p-3 : goal.offset_bounds-masks-p-in-loop-p-3
+offset_bounds-masks-p-in-loop-p-3 c = omega (arith, near3 (at.offset_bounds-masks-p-in-loop-p-3 c).In-loop-p-3)
+
+pub bounds-masks-p-in-loop-p-3 : goal.bounds-masks-p-in-loop-p-3
+bounds-masks-p-in-loop-p-3 c = point-in (at.bounds-masks-p-in-loop-p-3 c).After-points-n _ (omega (arith, inside3 (at.bounds-masks-p-in-loop-p-3 c).In-loop-p-3))
+
+pub lines_beside-lines-requires-in-loop-p-3 : goal.lines_beside-lines-requires-in-loop-p-3
+lines_beside-lines-requires-in-loop-p-3 c = (omega (arith, north-in3 (at.lines_beside-lines-requires-in-loop-p-3 c).In-loop-p-3), point-in (at.lines_beside-lines-requires-in-loop-p-3 c).After-points-n _ (inside3 (at.lines_beside-lines-requires-in-loop-p-3 c).In-loop-p-3))
+
+pub follow_four-requires-in-loop-p-3 : goal.follow_four-requires-in-loop-p-3
+follow_four-requires-in-loop-p-3 c =
+    beside_fit _ _ _ _ _ _ (fits (at.follow_four-requires-in-loop-p-3 c).After-points-n _ (here3 (at.follow_four-requires-in-loop-p-3 c).In-loop-p-3)) c.besides-far-in-loop-p-3.ensures
+
+pub put_present-requires-in-loop-p-3 : goal.put_present-requires-in-loop-p-3
+put_present-requires-in-loop-p-3 c =
+    (point-in (at.put_present-requires-in-loop-p-3 c).After-points-n _ (here3 (at.put_present-requires-in-loop-p-3 c).In-loop-p-3), passed_room _ _ _ _ c.points-n.ensures _ _ _ c.loop-p-3.invariant.0 (here3 (at.put_present-requires-in-loop-p-3 c).In-loop-p-3))
+
+pub overflow_add-p-in-loop-p-3 : goal.overflow_add-p-in-loop-p-3
+overflow_add-p-in-loop-p-3 c = omega (arith, near3 (at.overflow_add-p-in-loop-p-3 c).In-loop-p-3)
+
+pub loop-p-3-smaller : goal.loop-p-3-smaller
+loop-p-3-smaller c = omega (arith, inside3 (at.loop-p-3-smaller c).In-loop-p-3)
+
+pub loop-p-3-preserved : goal.loop-p-3-preserved
+unfolding mark
+loop-p-3-preserved c =
+    let m = c.args.masks.now in
+    let (r, i, k) = c.loop-p-3.invariant in (
+      passed_more _ _ _ _ c.points-n.ensures _ _ _ r (here3 (at.loop-p-3-preserved c).In-loop-p-3) _
+          (next_beside _ _ _ _ c.besides-far-in-loop-p-3.ensures c.follow_four-in-loop-p-3.ensures
+          c.put_present-in-loop-p-3.ensures c.lines_beside-lines-in-loop-p-3.ensures
+          (at_out m _ (omega (arith, c.requires.1, c.points-n.ensures)))
+          (lines_in m _ _ (omega arith) (point-in (at.loop-p-3-preserved c).After-points-n _ (omega (arith, here3 (at.loop-p-3-preserved c).In-loop-p-3))))),
+      omega arith,
+      omega (arith, inside3 (at.loop-p-3-preserved c).In-loop-p-3),
+    )
+
+pub next_at-requires-2 : goal.next_at-requires-2
+next_at-requires-2 c =
+    (point-in (at.next_at-requires-2 c).After-points-n _ (last (at.next_at-requires-2 c).After-loop-p-3), fits (at.next_at-requires-2 c).After-points-n _ (last (at.next_at-requires-2 c).After-loop-p-3), passed_room _ _ _ _ c.points-n.ensures _ _ _ c.loop-p-3.invariant.0 (last (at.next_at-requires-2 c).After-loop-p-3))
+
+pub shape_of-next : goal.shape_of-next
+shape_of-next c =
+    c.next_at-2.auto.1.1.0 ∙ c.loop-p-3.invariant.0.long ∙ sym c.requires.2
+
+pub returns : goal.returns
+unfolding nexts marked entry_of
+returns c =
+    let r = c.loop-p-3.invariant.0 in
+    let u = passed_more _ _ _ _ c.points-n.ensures _ _ _ r (last (at.returns c).After-loop-p-3) _ c.next_at-2.ensures in
+    passed_all _ _ _ _ c.points-n.ensures _ _ _ u (omega (arith, c.loop-p-3-test.false))

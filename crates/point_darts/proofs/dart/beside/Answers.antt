@@ -1,0 +1,20 @@
+use Rattle.point_darts.specs.Dart.{beside}
+use Rattle.point_darts.proofs.Arm.{beside_rest}
+use Rattle.point_darts.proofs.dart.beside.Goals as goal
+
+pub returns-in-0 : goal.returns-in-0
+unfolding beside
+returns-in-0 c = rw c.in-0.is
+
+pub returns-in-1 : goal.returns-in-1
+unfolding beside
+returns-in-1 c = rw c.in-1.is
+
+pub returns-in-2 : goal.returns-in-2
+unfolding beside
+returns-in-2 c = rw c.in-2.is c.less.ensures
+
+pub returns-in_default : goal.returns-in_default
+returns-in_default c =
+    let r = c.in_default.in_default-own.rest in
+    rw (beside_rest _ _ _ r.0.0.1 r.0.1 r.1) c.less-in_default.ensures

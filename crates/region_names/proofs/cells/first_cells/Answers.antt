@@ -1,0 +1,41 @@
+use mathlib.Core.Path.{sym}
+use Prim.Native.Nat.{◌-◌}
+use native.Mathlib.Nat.{zero-mod}
+use native.Mathlib.Omega.{arith}
+use Rattle.sheet_size.proofs.Limit.{within_limits}
+use Rattle.laws.proofs.Column.{column_on, column_back}
+use Rattle.point_darts.proofs.Fit.{cells_fit}
+use Rattle.table_forest.proofs.Reach.{growing, reached_none, reached_more, reached_least}
+use Rattle.region_names.proofs.cells.first_cells.Goals as goal
+
+pub overflow_mul-n : goal.overflow_mul-n
+overflow_mul-n c = omega (arith, cells_fit _ _ c.requires.0)
+
+pub loop-i-init : goal.loop-i-init
+loop-i-init c = (reached_none _ _ _ _ c.requires.2, sym (zero-mod c.args.width))
+
+pub overflow_add-i : goal.overflow_add-i
+overflow_add-i c =
+    omega (arith, cells_fit _ _ c.requires.0, c.loop-i-test.true)
+
+pub loop-i-preserved-then-column-width : goal.loop-i-preserved-then-column-width
+loop-i-preserved-then-column-width c =
+    let g = c.grow in
+    let f = c.loop-i.invariant in
+    (
+      reached_more _ _ _ _ _ f.0 _ g.auto.1.1.0 (g.ensures (growing _ _ _ _ _ f.0)),
+      column_back _ (within_limits _ _ c.requires.0).width_some _ _ f.1 c.if-column-width.true,
+    )
+
+pub loop-i-preserved : goal.loop-i-preserved
+loop-i-preserved c =
+    let g = c.grow in
+    let f = c.loop-i.invariant in
+    (
+      reached_more _ _ _ _ _ f.0 _ g.auto.1.1.0 (g.ensures (growing _ _ _ _ _ f.0)),
+      column_on _ (within_limits _ _ c.requires.0).width_some _ _ f.1 c.if-column-width.false,
+    )
+
+pub returns : goal.returns
+returns c =
+    reached_least _ _ _ _ _ c.loop-i.invariant.0 _ c.loop-i-test.false c.flatten.ensures

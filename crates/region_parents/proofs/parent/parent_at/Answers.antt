@@ -1,0 +1,62 @@
+use mathlib.Core.Path.{◌≡◌, ◌∙◌}
+use mathlib.Core.Logic.{⊎_elim}
+use Prim.Native.Nat.{◌+◌, ◌<◌}
+use native.Mathlib.Omega.{arith}
+use lib.ListN.{length, get_or}
+use Rattle.point_darts.specs.Dart.{mark, dart}
+use Rattle.region_parents.proofs.Corner.{parent_unused, parent_used}
+use Rattle.region_parents.proofs.parent.parent_at.Goals.{After-first_slot, After-first_slot-2}
+use Rattle.region_parents.proofs.parent.parent_at.Goals.at as at
+use Rattle.region_parents.proofs.parent.parent_at.Goals as goal
+
+-- The slot of the dart east of the corner is in the table.
+first-in : (f : After-first_slot) → f.first_slot.result < length f.args.side.now
+unfolding dart
+first-in f = omega (arith, f.first_slot.ensures, f.requires.0)
+
+-- And so is the slot of the dart that leads back from the top.
+module _ (f : After-first_slot-2) where
+
+  back_in : f.first_slot-2.result + 2 < length f.args.side.now
+  unfolding dart
+  back_in = omega (arith, f.first_slot-2.ensures, f.requires.3.up f.args.corner, f.requires.0)
+
+pub offset_bounds-side-first_slot : goal.offset_bounds-side-first_slot
+unfolding mark dart
+offset_bounds-side-first_slot c = omega (arith, c.first_slot.ensures)
+
+pub bounds-side-first_slot : goal.bounds-side-first_slot
+bounds-side-first_slot c = first-in (at.bounds-side-first_slot c).After-first_slot
+
+pub overflow_add-top : goal.overflow_add-top
+unfolding mark dart
+overflow_add-top c =
+    omega (arith, c.requires.3.up c.args.corner)
+
+pub overflow_add-out : goal.overflow_add-out
+unfolding mark
+overflow_add-out c = omega (arith, back_in c, c.requires.1)
+
+pub offset_bounds-side-first_slot-2 : goal.offset_bounds-side-first_slot-2
+unfolding mark
+offset_bounds-side-first_slot-2 c = omega (arith, back_in c, c.requires.1)
+
+pub bounds-side-first_slot-2 : goal.bounds-side-first_slot-2
+bounds-side-first_slot-2 c = omega (arith, back_in (at.bounds-side-first_slot-2 c).After-first_slot-2)
+
+pub returns : goal.returns
+unfolding mark
+returns c =
+    let e = c.larger.ensures in
+    let v = c.shared_slice_known-5-1.given (c.first_slot-2.result + 2) in
+    ⊎_elim
+    (λ p.
+    let o = p.1 in
+    let u : c.larger.result ≡ get_or c.args.side.now (c.first_slot-2.result + 2) 0 = omega arith in
+    u ∙ parent_used _ _ _ _ _ _ c.first_slot.ensures (first-in (at.returns c).After-first_slot) p.0.taken c.requires.4 _ c.first_slot-2.ensures
+    (back_in (at.returns c).After-first_slot-2))
+    (λ p.
+    let o = p.1 in
+    let u : c.larger.result ≡ mark = omega arith in
+    u ∙ parent_unused _ _ _ _ _ _ c.first_slot.ensures (first-in (at.returns c).After-first_slot) p.0.left)
+    c.if-first-name.branch
