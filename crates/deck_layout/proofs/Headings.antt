@@ -4,7 +4,7 @@
 use mathlib.Core.Path.{◌≡◌, refl}
 use mathlib.Core.Bool.{Bool, true, false}
 use mathlib.Core.List.{List, [], ◌∷◌, ◌++◌}
-use Prim.Native.Nat.{ℕ, zero, suc, ◌≤◌, ◌<◌}
+use Prim.Native.Nat.{ℕ, zero, suc, ◌/◌, ◌≤◌, ◌<◌}
 use native.Mathlib.Omega.{arith}
 use lib.Dec.{T, ltb, lit<}
 use lib.ListN.{length, get_or}
@@ -27,7 +27,7 @@ heading_fits w h = laid_fits (wide w) w h
 digit_byte : (n k : ℕ) → digit n k < 256
 unfolding digit
 digit_byte n zero = omega arith
-digit_byte n (suc k) = digit_byte _ k
+digit_byte n (suc k) = digit_byte (n / 10) k
 
 -- entries that are bytes
 record Bytes (l : List ℕ) : Type 0 where

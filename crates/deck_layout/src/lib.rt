@@ -1,5 +1,6 @@
 // How a sheet is laid out on cards: which columns its header has, how many cards hold its rows, and how many cells each.
 #![tactic(auto)]
+
 ghost use Rattle.std.specs.Prelude.{◌≡◌, true};
 ghost use Rattle.sheet_size.specs.Size.{within};
 ghost use Rattle.deck_layout.specs.Layout.{wide, heading, row_cards, held};

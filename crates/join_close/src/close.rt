@@ -1,7 +1,7 @@
 ghost use Rattle.std.specs.Prelude.{◌≡◌, true, ◌<◌, length};
 ghost use Rattle.sheet_size.specs.Size.{within};
 ghost use Rattle.point_darts.specs.Dart.{mark, points, slots, dart};
-ghost use Rattle.point_rules.specs.Turn.{point_table};
+ghost use Rattle.point_rules.specs.Turn.{point_table as the_point_table};
 ghost use Rattle.paper.specs.Joining.{on, moved, close, closes};
 ghost use Rattle.join_darts.specs.Links.{links};
 ghost use Rattle.join_darts.specs.Visited.{Visited};
@@ -33,7 +33,7 @@ fn close_point(
     other: &mut [u16],
     point: u16,
 )
-    requires { (point_table.now ≡ point_table) × (dart point 3 < mark) × (dart point 3 < length before.now) ×
+    requires { (point_table.now ≡ the_point_table) × (dart point 3 < mark) × (dart point 3 < length before.now) ×
         (dart point 3 < length lines.now) × (dart point 3 < length next.old) × (point < length tops.now) ×
         Rising tops.now }
     ensures { links next.new other.new ≡
@@ -74,7 +74,7 @@ pub fn close(
     next: &mut [u16],
     other: &mut [u16],
 )
-    requires { (within width height ≡ true) × (point_table.now ≡ point_table) × (length list.now ≡ slots width height) ×
+    requires { (within width height ≡ true) × (point_table.now ≡ the_point_table) × (length list.now ≡ slots width height) ×
         (length before.now ≡ slots width height) × (length lines.now ≡ slots width height) ×
         (length next.old ≡ slots width height) × (length tops.now ≡ points width height) × Rising tops.now ×
         Visited (closes (on lines.now) tops.now) (close (on lines.now) tops.now) (links next.old other.old)

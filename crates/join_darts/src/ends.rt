@@ -2,7 +2,7 @@
 ghost use Rattle.std.specs.Prelude.{◌≡◌, ◌≤◌, ◌<◌, eqb};
 ghost use Rattle.point_darts.specs.Dart.{mark, dart};
 ghost use Rattle.point_darts.specs.Point.{degree};
-ghost use Rattle.point_rules.specs.Turn.{point_table, becoming};
+ghost use Rattle.point_rules.specs.Turn.{point_table as the_point_table, becoming};
 ghost use Rattle.paper.specs.Joining.{low, high};
 
 use point_darts::dart::Dart;
@@ -18,7 +18,7 @@ pub struct Ends {
 // What a point becomes, by the point table, that had the lines before and has the lines left: the table is read at the
 // lines present and those of them that are taken.
 fn becoming(point_table: &[u16; 256], before: u16, left: u16) -> u16
-    requires { (point_table.now ≡ point_table) × (before < 16) × (left < 16) }
+    requires { (point_table.now ≡ the_point_table) × (before < 16) × (left < 16) }
     ensures { result ≡ becoming before left }
 {
     let present = before | left;
@@ -28,7 +28,7 @@ fn becoming(point_table: &[u16; 256], before: u16, left: u16) -> u16
 
 // Whether exactly two lines are left of those before: the point becomes two lines in line or a corner.
 pub fn two(point_table: &[u16; 256], before: u16, left: u16) -> bool
-    requires { (point_table.now ≡ point_table) × (before < 16) × (left < 16) }
+    requires { (point_table.now ≡ the_point_table) × (before < 16) × (left < 16) }
     ensures { result ≡ eqb (degree left) 2 }
 {
     let kind = becoming(point_table, before, left);

@@ -1,7 +1,7 @@
 ghost use Rattle.std.specs.Prelude.{◌≡◌, true, List, ℕ, ◌<◌, length};
 ghost use Rattle.sheet_size.specs.Size.{within};
 ghost use Rattle.point_darts.specs.Dart.{mark, slots, dart};
-ghost use Rattle.point_rules.specs.Turn.{point_table};
+ghost use Rattle.point_rules.specs.Turn.{point_table as the_point_table};
 ghost use Rattle.paper.specs.Joining.{spliced, smooth, smooths, smoothed};
 ghost use Rattle.join_darts.specs.Links.{links, splice};
 ghost use Rattle.join_darts.specs.Visited.{Visited};
@@ -50,7 +50,7 @@ fn smooth_point(
     other: &mut [u16],
     point: u16,
 )
-    requires { (point_table.now ≡ point_table) × (dart point 3 < mark) × (dart point 3 < length before.now) ×
+    requires { (point_table.now ≡ the_point_table) × (dart point 3 < mark) × (dart point 3 < length before.now) ×
         (dart point 3 < length next.old) }
     ensures { links next.new other.new ≡ smooth (links next.old other.old) point }
 {
@@ -74,7 +74,7 @@ pub fn smooth(
     next: &mut [u16],
     other: &mut [u16],
 )
-    requires { (within width height ≡ true) × (point_table.now ≡ point_table) × (length list.now ≡ slots width height) ×
+    requires { (within width height ≡ true) × (point_table.now ≡ the_point_table) × (length list.now ≡ slots width height) ×
         (length before.now ≡ slots width height) × (length next.old ≡ slots width height) ×
         Visited smooths smooth (links next.old other.old) (slots width height) first list.now }
     ensures { links next.new other.new ≡

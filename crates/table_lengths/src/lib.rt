@@ -1,5 +1,6 @@
 // The stated lengths of the tables that a call is lent.
 #![tactic(auto)]
+
 ghost use Rattle.std.specs.Prelude.{◌≡◌, true};
 ghost use Rattle.sheet_size.specs.Size.{within};
 ghost use Rattle.table_lengths.specs.Lengths.{all_are, lengths};

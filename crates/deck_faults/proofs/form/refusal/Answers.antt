@@ -1,7 +1,9 @@
 use mathlib.Core.Bool.{cond}
-use mathlib.Core.Path.{◌≡◌}
+use mathlib.Core.Path.{◌≡◌, sym, ◌∙◌}
+use native.Mathlib.Omega.{arith}
 use borrow.Author.Tests.{eq-eqb, ne_eqb}
-use Rattle.deck_card.specs.Card.{columns, places}
+use Rattle.deck_card.specs.Card.{columns, places, long}
+use Rattle.deck_card.proofs.Parts.{whole_is}
 use Rattle.deck_faults.specs.Fault.{form}
 use Rattle.deck_faults.proofs.Forms.{bears_is}
 use Rattle.deck_faults.proofs.form.refusal.Goals.{After-agrees}
@@ -40,3 +42,9 @@ returns-then-not-agrees c = rw (decided (at.returns-then-not-agrees c).After-agr
 
 pub returns : goal.returns
 returns c = rw (decided (at.returns c).After-agrees, c.if-not-agrees.false)
+
+pub agrees-requires-clause-from_le_to : goal.agrees-requires-clause-from_le_to
+unfolding columns places long
+agrees-requires-clause-from_le_to c =
+    let n = (whole_is c.args.card.now (sym c.whole.ensures ∙ c.if-not-whole.false)).length_is in
+    omega arith

@@ -1,8 +1,11 @@
 use mathlib.Core.Bool.{cond}
 use mathlib.Core.Path.{◌≡◌, sym, ◌∙◌}
-use Rattle.deck_card.specs.Card.{columns}
+use native.Mathlib.Omega.{arith}
+use Rattle.deck_card.specs.Card.{columns, places, long}
+use Rattle.deck_card.proofs.Parts.{whole_is}
+use Rattle.deck_layout.proofs.Headings.{heading_fits, heading_bytes}
 use Rattle.deck_faults.specs.Fault.{header}
-use Rattle.deck_faults.proofs.Forms.{headed_is, header_formed, header_is}
+use Rattle.deck_faults.proofs.Forms.{headed_is, header_formed, header_is, form_none}
 use Rattle.deck_faults.proofs.header.refusal.Goals.{After-agrees}
 use Rattle.deck_faults.proofs.header.refusal.Goals.at as at
 use Rattle.deck_faults.proofs.header.refusal.Goals as goal
@@ -45,3 +48,16 @@ returns-then-not-agrees c = rw (decided (at.returns-then-not-agrees c).After-agr
 
 pub returns : goal.returns
 returns c = rw (decided (at.returns c).After-agrees, c.if-not-agrees.false)
+
+pub agrees-requires-clause-content_len_bound : goal.agrees-requires-clause-content_len_bound
+agrees-requires-clause-content_len_bound c =
+    let w = c.width-width.result in
+    let h = c.height-height.result in
+    rw c.heading-content.ensures (heading_fits w h, heading_bytes w h)
+
+pub agrees-requires-clause-from_le_to : goal.agrees-requires-clause-from_le_to
+unfolding columns places long
+agrees-requires-clause-from_le_to c =
+    let f = form_none 1 c.args.card.now (sym c.refusal-form.ensures ∙ c.if-form-ne0.false) in
+    let n = (whole_is c.args.card.now f.whole_is).length_is in
+    omega arith

@@ -9,8 +9,7 @@ overflow_add-place c = omega (arith, c.requires)
 
 pub returns : goal.returns
 unfolding value
-returns c =
-    (
-      rw (c.worth.ensures, c.at.ensures, c.worth-2.ensures, c.at-2.ensures),
-      omega (arith, c.worth.ensures, c.worth-2.ensures),
-    )
+returns c = (
+  rw (c.worth.ensures, c.at.ensures, c.worth-2.ensures, c.at-2.ensures),
+  omega (arith, c.worth.ensures, c.worth-2.ensures),
+)

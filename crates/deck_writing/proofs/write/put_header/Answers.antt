@@ -1,6 +1,7 @@
 use mathlib.Core.Path.{sym}
 use lib.Seq.{length-take-le}
 use Rattle.deck_card.specs.Card.{columns, places, long}
+use Rattle.deck_layout.proofs.Headings.{heading_fits, heading_bytes}
 use Rattle.deck_writing.proofs.write.put_header.Goals as goal
 
 pub slice_bounds-put-end : goal.slice_bounds-put-end
@@ -11,6 +12,16 @@ pub slice_bounds-put-end-2 : goal.slice_bounds-put-end-2
 unfolding columns places long
 slice_bounds-put-end-2 c =
     sym (length-take-le long c.args.deck.now c.requires)
+
+pub put-requires-clause-content_len_bound : goal.put-requires-clause-content_len_bound
+put-requires-clause-content_len_bound c =
+    let w = c.args.width in
+    let h = c.args.height in
+    rw c.heading-content.ensures (heading_fits w h, heading_bytes w h)
+
+pub put-requires-clause-bytes_len : goal.put-requires-clause-bytes_len
+unfolding columns places long
+put-requires-clause-bytes_len c = length-take-le long c.args.deck.now c.requires
 
 pub returns : goal.returns
 unfolding columns places long

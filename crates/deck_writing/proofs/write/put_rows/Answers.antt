@@ -7,8 +7,8 @@ use Rattle.deck_card.specs.Card.{columns, places, long, card}
 use Rattle.deck_layout.specs.Layout.{held}
 use Rattle.deck_layout.proofs.Sizes.{cards_few}
 use Rattle.deck_card.proofs.Table.{rest_all}
-use Rattle.deck_writing.proofs.Punching.{punching_none, punching_cells, punching_room}
-use Rattle.deck_writing.proofs.Punching.{punching_turn, punching_end, middle}
+use Rattle.deck_writing.proofs.Punching.{punching_none, punching_cells, punching_room, punching_content}
+use Rattle.deck_writing.proofs.Punching.{punching_turn, punching_end, middle, length_middle}
 use Rattle.deck_writing.proofs.write.put_rows.Goals.{In-loop-left, After-held-held}
 use Rattle.deck_writing.proofs.write.put_rows.Goals.at as at
 use Rattle.deck_writing.proofs.write.put_rows.Goals as goal
@@ -32,8 +32,8 @@ pub loop-left-init : goal.loop-left-init
 unfolding columns places long
 loop-left-init c =
     rw c.row_cards-left.ensures
-    (punching_none c.args.width c.args.height c.args.sheet.now c.args.deck.now c.requires.sheet_len.0
-    c.requires.sheet_len.1.0 c.requires.sheet_len.1.1)
+    (punching_none c.args.width c.args.height c.args.sheet.now c.args.deck.now c.requires.sheet_len
+    c.requires.deck_len c.requires.sheet_value)
 
 pub slice_bounds-put-end : goal.slice_bounds-put-end
 unfolding columns places long
@@ -41,13 +41,25 @@ slice_bounds-put-end c = bytes-there (at.slice_bounds-put-end c).In-loop-left
 
 pub slice_bounds-put-end-in-loop-left : goal.slice_bounds-put-end-in-loop-left
 slice_bounds-put-end-in-loop-left c =
-    sym (length-take-le c.held-held.result c.loop-left.rest.now (cells-there (at.slice_bounds-put-end-in-loop-left c).In-loop-left))
+    sym (length-take-le c.held-held.result c.loop-left.rest.now (cells-there (at.slice_bounds-put-end-in-loop-left c).After-held-held))
+
+pub put-requires-clause-content_len_bound : goal.put-requires-clause-content_len_bound
+put-requires-clause-content_len_bound c =
+    let l = c.loop-left in
+    rw c.held-held.ensures
+    (punching_content c.args.width c.args.height c.requires.height_value _ l.deck l.rest.now l.number l.at
+    l.left c.loop-left-test.true l.invariant)
+
+pub put-requires-clause-bytes_len : goal.put-requires-clause-bytes_len
+unfolding columns places long
+put-requires-clause-bytes_len c =
+    length_middle c.loop-left.at c.loop-left.deck (bytes-there (at.put-requires-clause-bytes_len c).In-loop-left)
 
 pub slice_bounds-rest-count : goal.slice_bounds-rest-count
-slice_bounds-rest-count c = cells-there (at.slice_bounds-rest-count c).In-loop-left
+slice_bounds-rest-count c = cells-there (at.slice_bounds-rest-count c).After-held-held
 
 pub slice_bounds-rest-start : goal.slice_bounds-rest-start
-slice_bounds-rest-start c = cells-there (at.slice_bounds-rest-start c).In-loop-left
+slice_bounds-rest-start c = cells-there (at.slice_bounds-rest-start c).After-held-held
 
 pub overflow_add-number : goal.overflow_add-number
 overflow_add-number c =

@@ -1,34 +1,15 @@
 use native.Mathlib.Omega.{arith}
 use Rattle.point_darts.specs.Dart.{mark, dart}
 use Rattle.level_lines.proofs.Pointing.{beside_fit, next_is}
-use borrow.Author.Rules.{rules}
 use Rattle.level_lines.proofs.line.next_at.Goals as goal
 
 pub besides-far-requires : goal.besides-far-requires
 unfolding mark dart
 besides-far-requires c = omega arith
 
-pub get-requires : goal.get-requires
-get-requires c = search rules
-
-pub get-requires-2 : goal.get-requires-2
-get-requires-2 c = search rules
-
-pub get-requires-3 : goal.get-requires-3
-get-requires-3 c = search rules
-
-pub get-requires-4 : goal.get-requires-4
-get-requires-4 c = search rules
-
 pub follow_four-requires : goal.follow_four-requires
 follow_four-requires c =
     beside_fit _ _ _ _ _ _ c.requires.1 c.besides-far.ensures
-
-pub put_present-requires : goal.put_present-requires
-put_present-requires c = search rules
-
-pub shape_of-next : goal.shape_of-next
-shape_of-next c = search rules
 
 pub returns : goal.returns
 returns c =

@@ -1,4 +1,3 @@
-use mathlib.Core.Path.{sym, ◌∙◌}
 use Prim.Native.Nat.{ℕ, ◌+◌, ◌*◌, ◌-◌, ◌≤◌, ◌<◌}
 use native.Mathlib.Omega.{arith}
 use lib.ListN.{length}
@@ -87,9 +86,6 @@ module _ (e : After-loop-p-3) where
   last : e.loop-p-3.p < e.points-n.result
   last = omega (arith, e.loop-p-3.invariant.2)
 
-pub points-n-requires : goal.points-n-requires
-points-n-requires c = c.requires.0
-
 pub overflow_add-row : goal.overflow_add-row
 overflow_add-row c = omega (arith, rows_in c)
 
@@ -112,12 +108,6 @@ besides-far-requires c = omega (arith, near c)
 
 pub overflow_add-p : goal.overflow_add-p
 overflow_add-p c = omega (arith, near (at.overflow_add-p c).In-loop-p)
-
-pub overflow_cast-p : goal.overflow_cast-p
-overflow_cast-p c = omega (arith, near (at.overflow_cast-p c).In-loop-p)
-
-pub offset_bounds-masks-p : goal.offset_bounds-masks-p
-offset_bounds-masks-p c = omega (arith, near (at.offset_bounds-masks-p c).In-loop-p)
 
 pub bounds-masks-p : goal.bounds-masks-p
 bounds-masks-p c = point-in (at.bounds-masks-p c).After-points-n _ (omega (arith, south-in (at.bounds-masks-p c).In-loop-p))
@@ -160,40 +150,6 @@ loop-p-2-init c =
     let (r, i, k) = c.loop-p.invariant in
     (passed_so_far _ _ _ _ _ _ r, c.loop-p-test.false, omega (arith, rows_in (at.loop-p-2-init c).After-points-n))
 
-pub overflow_sub-n : goal.overflow_sub-n
-overflow_sub-n c = omega (arith, rows_in (at.overflow_sub-n c).After-points-n)
-
-pub besides-far-requires-in-loop-p-2 : goal.besides-far-requires-in-loop-p-2
-besides-far-requires-in-loop-p-2 c = omega (arith, near2 c)
-
-pub overflow_add-south : goal.overflow_add-south
-overflow_add-south c = omega (arith, near2 (at.overflow_add-south c).In-loop-p-2)
-
-pub overflow_cast-south : goal.overflow_cast-south
-overflow_cast-south c = omega (arith, near2 (at.overflow_cast-south c).In-loop-p-2)
-
-pub offset_bounds-masks-p-in-loop-p-2 : goal.offset_bounds-masks-p-in-loop-p-2
-offset_bounds-masks-p-in-loop-p-2 c = omega (arith, near2 (at.offset_bounds-masks-p-in-loop-p-2 c).In-loop-p-2)
-
-pub bounds-masks-p-in-loop-p-2 : goal.bounds-masks-p-in-loop-p-2
-bounds-masks-p-in-loop-p-2 c = point-in (at.bounds-masks-p-in-loop-p-2 c).After-points-n _ (omega (arith, south-in2 (at.bounds-masks-p-in-loop-p-2 c).In-loop-p-2))
-
-pub overflow_sub-north : goal.overflow_sub-north
-overflow_sub-north c = omega (arith, c.loop-p-2.invariant.1)
-
-pub overflow_cast-north : goal.overflow_cast-north
-overflow_cast-north c = omega (arith, near2 (at.overflow_cast-north c).In-loop-p-2)
-
-pub offset_bounds-masks-p-in-loop-p-2-2 : goal.offset_bounds-masks-p-in-loop-p-2-2
-offset_bounds-masks-p-in-loop-p-2-2 c = omega (arith, near2 (at.offset_bounds-masks-p-in-loop-p-2-2 c).In-loop-p-2)
-
-pub bounds-masks-p-in-loop-p-2-2 : goal.bounds-masks-p-in-loop-p-2-2
-bounds-masks-p-in-loop-p-2-2 c = point-in (at.bounds-masks-p-in-loop-p-2-2 c).After-points-n _ (omega (arith, inside2 (at.bounds-masks-p-in-loop-p-2-2 c).In-loop-p-2))
-
-pub lines_beside-lines-requires-in-loop-p-2 : goal.lines_beside-lines-requires-in-loop-p-2
-lines_beside-lines-requires-in-loop-p-2 c =
-    (omega (arith, c.loop-p-2.invariant.1), point-in (at.lines_beside-lines-requires-in-loop-p-2 c).After-points-n _ (inside2 (at.lines_beside-lines-requires-in-loop-p-2 c).In-loop-p-2))
-
 pub follow_four-requires-in-loop-p-2 : goal.follow_four-requires-in-loop-p-2
 follow_four-requires-in-loop-p-2 c =
     beside_fit _ _ _ _ _ _ (fits (at.follow_four-requires-in-loop-p-2 c).After-points-n _ (here2 (at.follow_four-requires-in-loop-p-2 c).In-loop-p-2)) c.besides-far-in-loop-p-2.ensures
@@ -201,12 +157,6 @@ follow_four-requires-in-loop-p-2 c =
 pub put_present-requires-in-loop-p-2 : goal.put_present-requires-in-loop-p-2
 put_present-requires-in-loop-p-2 c =
     (point-in (at.put_present-requires-in-loop-p-2 c).After-points-n _ (here2 (at.put_present-requires-in-loop-p-2 c).In-loop-p-2), passed_room _ _ _ _ c.points-n.ensures _ _ _ c.loop-p-2.invariant.0 (here2 (at.put_present-requires-in-loop-p-2 c).In-loop-p-2))
-
-pub overflow_add-p-in-loop-p-2 : goal.overflow_add-p-in-loop-p-2
-overflow_add-p-in-loop-p-2 c = omega (arith, near2 (at.overflow_add-p-in-loop-p-2 c).In-loop-p-2)
-
-pub loop-p-2-smaller : goal.loop-p-2-smaller
-loop-p-2-smaller c = omega (arith, inside2 (at.loop-p-2-smaller c).In-loop-p-2)
 
 pub loop-p-2-preserved : goal.loop-p-2-preserved
 loop-p-2-preserved c =
@@ -221,31 +171,8 @@ loop-p-2-preserved c =
       omega (arith, south-in2 (at.loop-p-2-preserved c).In-loop-p-2),
     )
 
-pub loop-p-3-init : goal.loop-p-3-init
-loop-p-3-init c =
-    let (r, i, k) = c.loop-p-2.invariant in
-    (passed_so_far _ _ _ _ _ _ r, omega (arith, c.loop-p-2-test.false), omega arith)
-
-pub overflow_sub-n-in-loop-p-3 : goal.overflow_sub-n-in-loop-p-3
-overflow_sub-n-in-loop-p-3 c = omega (arith, rows_in (at.overflow_sub-n-in-loop-p-3 c).After-points-n)
-
 pub besides-far-requires-in-loop-p-3 : goal.besides-far-requires-in-loop-p-3
 besides-far-requires-in-loop-p-3 c = omega (arith, near3 c)
-
-pub overflow_sub-p : goal.overflow_sub-p
-overflow_sub-p c = north-in3 (at.overflow_sub-p c).In-loop-p-3
-
-pub overflow_cast-p-in-loop-p-3 : goal.overflow_cast-p-in-loop-p-3
-overflow_cast-p-in-loop-p-3 c = omega (arith, near3 (at.overflow_cast-p-in-loop-p-3 c).In-loop-p-3)
-
-pub offset_bounds-masks-p-in-loop-p-3 : goal.offset_bounds-masks-p-in-loop-p-3
-offset_bounds-masks-p-in-loop-p-3 c = omega (arith, near3 (at.offset_bounds-masks-p-in-loop-p-3 c).In-loop-p-3)
-
-pub bounds-masks-p-in-loop-p-3 : goal.bounds-masks-p-in-loop-p-3
-bounds-masks-p-in-loop-p-3 c = point-in (at.bounds-masks-p-in-loop-p-3 c).After-points-n _ (omega (arith, inside3 (at.bounds-masks-p-in-loop-p-3 c).In-loop-p-3))
-
-pub lines_beside-lines-requires-in-loop-p-3 : goal.lines_beside-lines-requires-in-loop-p-3
-lines_beside-lines-requires-in-loop-p-3 c = (omega (arith, north-in3 (at.lines_beside-lines-requires-in-loop-p-3 c).In-loop-p-3), point-in (at.lines_beside-lines-requires-in-loop-p-3 c).After-points-n _ (inside3 (at.lines_beside-lines-requires-in-loop-p-3 c).In-loop-p-3))
 
 pub follow_four-requires-in-loop-p-3 : goal.follow_four-requires-in-loop-p-3
 follow_four-requires-in-loop-p-3 c =
@@ -254,12 +181,6 @@ follow_four-requires-in-loop-p-3 c =
 pub put_present-requires-in-loop-p-3 : goal.put_present-requires-in-loop-p-3
 put_present-requires-in-loop-p-3 c =
     (point-in (at.put_present-requires-in-loop-p-3 c).After-points-n _ (here3 (at.put_present-requires-in-loop-p-3 c).In-loop-p-3), passed_room _ _ _ _ c.points-n.ensures _ _ _ c.loop-p-3.invariant.0 (here3 (at.put_present-requires-in-loop-p-3 c).In-loop-p-3))
-
-pub overflow_add-p-in-loop-p-3 : goal.overflow_add-p-in-loop-p-3
-overflow_add-p-in-loop-p-3 c = omega (arith, near3 (at.overflow_add-p-in-loop-p-3 c).In-loop-p-3)
-
-pub loop-p-3-smaller : goal.loop-p-3-smaller
-loop-p-3-smaller c = omega (arith, inside3 (at.loop-p-3-smaller c).In-loop-p-3)
 
 pub loop-p-3-preserved : goal.loop-p-3-preserved
 unfolding mark
@@ -278,10 +199,6 @@ loop-p-3-preserved c =
 pub next_at-requires-2 : goal.next_at-requires-2
 next_at-requires-2 c =
     (point-in (at.next_at-requires-2 c).After-points-n _ (last (at.next_at-requires-2 c).After-loop-p-3), fits (at.next_at-requires-2 c).After-points-n _ (last (at.next_at-requires-2 c).After-loop-p-3), passed_room _ _ _ _ c.points-n.ensures _ _ _ c.loop-p-3.invariant.0 (last (at.next_at-requires-2 c).After-loop-p-3))
-
-pub shape_of-next : goal.shape_of-next
-shape_of-next c =
-    c.next_at-2.auto.1.1.0 ∙ c.loop-p-3.invariant.0.long ∙ sym c.requires.2
 
 pub returns : goal.returns
 unfolding nexts marked entry_of

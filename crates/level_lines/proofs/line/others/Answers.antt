@@ -1,4 +1,3 @@
-use mathlib.Core.Path.{sym, ◌∙◌}
 use Prim.Native.Nat.{◌-◌}
 use native.Mathlib.Omega.{arith}
 use Rattle.paper.specs.Level.{marked}
@@ -6,9 +5,6 @@ use Rattle.point_darts.proofs.Fit.{point_fits}
 use Rattle.table_entries.proofs.Passed.{passed_none, passed_room, passed_more, passed_all}
 use Rattle.level_lines.specs.Line.{entry_of, others}
 use Rattle.level_lines.proofs.line.others.Goals as goal
-
-pub points-n-requires : goal.points-n-requires
-points-n-requires c = c.requires.0
 
 pub loop-p-init : goal.loop-p-init
 loop-p-init c = passed_none _ _ _ _ c.requires.2
@@ -20,19 +16,10 @@ other_at-requires c =
     let b = c.loop-p-test.true in
     (omega (arith, q.1, e, b), point_fits _ _ q.0 _ e _ b, passed_room _ _ _ _ e _ _ _ c.loop-p.invariant b)
 
-pub overflow_add-p : goal.overflow_add-p
-overflow_add-p c = omega (arith, c.loop-p-test.true)
-
-pub loop-p-smaller : goal.loop-p-smaller
-loop-p-smaller c = omega (arith, c.loop-p-test.true)
-
 pub loop-p-preserved : goal.loop-p-preserved
 loop-p-preserved c =
     passed_more _ _ _ _ c.points-n.ensures _ _ _ c.loop-p.invariant c.loop-p-test.true _
     c.other_at.ensures
-
-pub shape_of-other : goal.shape_of-other
-shape_of-other c = c.loop-p.invariant.long ∙ sym c.requires.2
 
 pub returns : goal.returns
 unfolding others marked entry_of

@@ -5,29 +5,7 @@ use Rattle.point_darts.specs.Dart.{dart}
 use Rattle.point_darts.specs.Point.{right}
 use Rattle.level_lines.specs.Side.{beheld}
 use Rattle.level_lines.proofs.Beheld.{beheld_dart}
-use borrow.Author.Rules.{rules}
 use Rattle.level_lines.proofs.side.side_at.Goals as goal
-
-pub around-cells-requires : goal.around-cells-requires
-around-cells-requires c = search rules
-
-pub right-requires : goal.right-requires
-right-requires c = search rules
-
-pub right-requires-2 : goal.right-requires-2
-right-requires-2 c = search rules
-
-pub right-requires-3 : goal.right-requires-3
-right-requires-3 c = search rules
-
-pub right-requires-4 : goal.right-requires-4
-right-requires-4 c = search rules
-
-pub put_present-requires : goal.put_present-requires
-put_present-requires c = search rules
-
-pub shape_of-side : goal.shape_of-side
-shape_of-side c = search rules
 
 pub returns : goal.returns
 returns c =

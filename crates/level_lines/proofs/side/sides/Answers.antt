@@ -1,4 +1,3 @@
-use mathlib.Core.Path.{sym, ◌∙◌}
 use Prim.Native.Nat.{◌-◌}
 use native.Mathlib.Omega.{arith}
 use Rattle.paper.specs.Level.{marked}
@@ -6,9 +5,6 @@ use Rattle.table_entries.proofs.Passed.{passed_none, passed_room, passed_more, p
 use Rattle.level_lines.specs.Line.{entry_of}
 use Rattle.level_lines.specs.Side.{sides}
 use Rattle.level_lines.proofs.side.sides.Goals as goal
-
-pub points-n-requires : goal.points-n-requires
-points-n-requires c = c.requires.0
 
 pub loop-p-init : goal.loop-p-init
 loop-p-init c = passed_none _ _ _ _ c.requires.3
@@ -20,19 +16,10 @@ side_at-requires c =
     let b = c.loop-p-test.true in
     (omega (arith, q.2, e, b), omega (arith, q.1, e, b), passed_room _ _ _ _ e _ _ _ c.loop-p.invariant b)
 
-pub overflow_add-p : goal.overflow_add-p
-overflow_add-p c = omega (arith, c.loop-p-test.true)
-
-pub loop-p-smaller : goal.loop-p-smaller
-loop-p-smaller c = omega (arith, c.loop-p-test.true)
-
 pub loop-p-preserved : goal.loop-p-preserved
 loop-p-preserved c =
     passed_more _ _ _ _ c.points-n.ensures _ _ _ c.loop-p.invariant c.loop-p-test.true _
     c.side_at.ensures
-
-pub shape_of-side : goal.shape_of-side
-shape_of-side c = c.loop-p.invariant.long ∙ sym c.requires.3
 
 pub returns : goal.returns
 unfolding sides marked entry_of

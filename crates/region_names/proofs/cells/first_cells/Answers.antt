@@ -23,7 +23,7 @@ loop-i-preserved-then-column-width c =
     let g = c.grow in
     let f = c.loop-i.invariant in
     (
-      reached_more _ _ _ _ _ f.0 _ g.auto.1.1.0 (g.ensures (growing _ _ _ _ _ f.0)),
+      reached_more _ _ _ _ _ f.0 _ g.auto.first (g.ensures (growing _ _ _ _ _ f.0)),
       column_back _ (within_limits _ _ c.requires.0).width_some _ _ f.1 c.if-column-width.true,
     )
 
@@ -32,7 +32,7 @@ loop-i-preserved c =
     let g = c.grow in
     let f = c.loop-i.invariant in
     (
-      reached_more _ _ _ _ _ f.0 _ g.auto.1.1.0 (g.ensures (growing _ _ _ _ _ f.0)),
+      reached_more _ _ _ _ _ f.0 _ g.auto.first (g.ensures (growing _ _ _ _ _ f.0)),
       column_on _ (within_limits _ _ c.requires.0).width_some _ _ f.1 c.if-column-width.false,
     )
 

@@ -1,11 +1,10 @@
 use mathlib.Core.Path.{◌≡◌, ◌∙◌}
-use mathlib.Core.Logic.{⊎_elim}
 use Prim.Native.Nat.{◌+◌, ◌<◌}
 use native.Mathlib.Omega.{arith}
 use lib.ListN.{length, get_or}
 use Rattle.point_darts.specs.Dart.{mark, dart}
 use Rattle.region_parents.proofs.Corner.{parent_unused, parent_used}
-use Rattle.region_parents.proofs.parent.parent_at.Goals.{After-first_slot, After-first_slot-2}
+use Rattle.region_parents.proofs.parent.parent_at.Goals.{After-first_slot, After-first_slot-2, then-first-name, else-first-name}
 use Rattle.region_parents.proofs.parent.parent_at.Goals.at as at
 use Rattle.region_parents.proofs.parent.parent_at.Goals as goal
 
@@ -47,16 +46,14 @@ bounds-side-first_slot-2 c = omega (arith, back_in (at.bounds-side-first_slot-2 
 pub returns : goal.returns
 unfolding mark
 returns c =
-    let e = c.larger.ensures in
-    let v = c.shared_slice_known-5-1.given (c.first_slot-2.result + 2) in
-    ⊎_elim
-    (λ p.
-    let o = p.1 in
-    let u : c.larger.result ≡ get_or c.args.side.now (c.first_slot-2.result + 2) 0 = omega arith in
-    u ∙ parent_used _ _ _ _ _ _ c.first_slot.ensures (first-in (at.returns c).After-first_slot) p.0.taken c.requires.4 _ c.first_slot-2.ensures
-    (back_in (at.returns c).After-first_slot-2))
-    (λ p.
-    let o = p.1 in
-    let u : c.larger.result ≡ mark = omega arith in
-    u ∙ parent_unused _ _ _ _ _ _ c.first_slot.ensures (first-in (at.returns c).After-first_slot) p.0.left)
-    c.if-first-name.branch
+    let f = first-in (at.returns c).After-first_slot in
+    let b = back_in (at.returns c).After-first_slot-2 in
+    let s = c.type_inv.side (c.first_slot-2.result + 2) in
+    elim c.if-first-name.branch [
+      | then-first-name w ↦
+          let u : c.larger.result ≡ get_or c.args.side.now (c.first_slot-2.result + 2) 0 = omega (arith, s, w.other-is) in
+          u ∙ parent_used _ _ _ _ _ _ c.first_slot.ensures f w.if-first-name.true c.requires.4 _ c.first_slot-2.ensures b
+      | else-first-name w ↦
+          let u : c.larger.result ≡ mark = omega (arith, s, w.other-is) in
+          u ∙ parent_unused _ _ _ _ _ _ c.first_slot.ensures f w.if-first-name.false
+    ]

@@ -8,7 +8,6 @@ use Rattle.table_forest.proofs.nodes.plant.Goals.at as at
 use Rattle.table_forest.proofs.nodes.plant.Goals as goal
 
 module _ (s : After-instead-second) where
-
   first-le : s.instead-first.result ≤ s.args.i
   first-le = instead_le _ _ _ _ s.requires.2 s.requires.3 s.instead-first.ensures
 

@@ -1,0 +1,16 @@
+use mathlib.Core.Bool.{cond}
+use Prim.Native.Nat.{◌-◌}
+use lib.ListN.{length}
+use Rattle.point_darts.specs.Dart.{mark}
+use Rattle.paper.specs.Joining.{at, shared}
+use Rattle.join_darts.specs.Listed.{Bounded}
+use Rattle.join_shared.proofs.Treating.{Treated}
+use Rattle.join_shared.proofs.shared.unpair.Given as goal
+
+abbrev pub invariant-loop-dart : goal.invariant-loop-dart
+invariant-loop-dart l =
+    (g : Bounded l.side l.initial.other l.a l.b (length l.initial.other) l.first l.list)
+    → Treated (λ d. cond (shared l.side (at l.initial.other) l.a l.b d) mark (at l.initial.other d)) g.test l.dart l.initial.other l.other
+
+abbrev pub decreases-loop-dart : goal.decreases-loop-dart
+decreases-loop-dart l = l.n - l.dart
