@@ -1,5 +1,5 @@
--- What is judged_or after a check's refusals 1 to 4 and before its 5.
---   judged_or k b n    == the number after a check with the number k, where b says that what is judged_or is right, else n
+-- What is judged after a check's refusals 1 to 4 and before its 5.
+--   judged_or k b n == the number after a check with the number k, where b says that what is judged is right, else n
 use mathlib.Core.Path.{◌≡◌, refl, sym, ap, ◌∙◌}
 use mathlib.Core.Bool.{Bool, true, false, cond, not, ◌&&◌, true≢false}
 use mathlib.Core.List.{List, [], ◌∷◌, ◌++◌}
@@ -40,7 +40,7 @@ module _ (k : ℕ) where
   pub early_low : 1 ≤ k → leb k 4 ≡ (leb 1 k && leb k 4)
   early_low l = rw (le-leb 1 k l)
 
--- Where e says whether the number m of the check, which is k, is 1 to 4, and b whether what is judged_or is right.
+-- Where e says whether the number m of the check, which is k, is 1 to 4, and b whether what is judged is right.
 module _ (k m n : ℕ) (e b : Bool) (p : m ≡ k) (q : e ≡ (leb 1 m && leb m 4)) where
   early : e ≡ (leb 1 k && leb k 4)
   early = q ∙ ap (λ n. leb 1 n && leb n 4) p

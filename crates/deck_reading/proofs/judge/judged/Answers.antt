@@ -16,7 +16,8 @@ refusal c = rw (← c.next-card.ensures) c.refusal-refusal.ensures
 
 pub returns-then-refusal-ne0 : goal.returns-then-refusal-ne0
 returns-then-refusal-ne0 c =
-    rw (refusal (at.returns-then-refusal-ne0 c).After-refusal-refusal) (judged-stop c.args.deck.now (rw (← (refusal (at.returns-then-refusal-ne0 c).After-refusal-refusal)) c.if-refusal-ne0.true))
+    let r = refusal (at.returns-then-refusal-ne0 c).After-refusal-refusal in
+    rw r (judged-stop c.args.deck.now (rw (← r) c.if-refusal-ne0.true))
 
 pub slice_bounds-rows-count : goal.slice_bounds-rows-count
 unfolding columns places long

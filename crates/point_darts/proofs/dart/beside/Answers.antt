@@ -1,3 +1,4 @@
+use native.Mathlib.Omega.{arith}
 use Rattle.point_darts.specs.Dart.{beside}
 use Rattle.point_darts.proofs.Arm.{beside_rest}
 use Rattle.point_darts.proofs.dart.beside.Goals as goal
@@ -16,5 +17,4 @@ returns-in-2 c = rw c.in-2.is c.less.ensures
 
 pub returns-in_default : goal.returns-in_default
 returns-in_default c =
-    let r = c.in_default.in_default-own.rest in
-    rw (beside_rest _ _ _ r.0.0.1 r.0.1 r.1) c.less-in_default.ensures
+    rw (beside_rest _ _ c.args.direction (omega arith) (omega arith) (omega arith)) c.less-in_default.ensures

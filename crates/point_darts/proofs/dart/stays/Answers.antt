@@ -1,3 +1,4 @@
+use native.Mathlib.Omega.{arith}
 use Rattle.point_darts.specs.Dart.{stays}
 use Rattle.point_darts.proofs.Arm.{stays_rest}
 use Rattle.point_darts.proofs.dart.stays.Goals as goal
@@ -15,4 +16,4 @@ unfolding stays
 returns-in-2 c = rw c.in-2.is
 
 pub returns-in_default : goal.returns-in_default
-returns-in_default c = rw (stays_rest _ _ _ _ _ c.in_default.in_default-own.rest.0.0.1 c.in_default.in_default-own.rest.0.1 c.in_default.in_default-own.rest.1)
+returns-in_default c = rw (stays_rest _ _ _ _ c.args.direction (omega arith) (omega arith) (omega arith))

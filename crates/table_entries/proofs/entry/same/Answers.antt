@@ -1,5 +1,4 @@
 use mathlib.Core.Path.{refl}
-use Prim.Native.Nat.{◌-◌}
 use Rattle.table_entries.proofs.Same.{agreed, agreed_more, same_all, same_short}
 use Rattle.table_entries.proofs.entry.same.Goals as goal
 

@@ -1,7 +1,6 @@
 use native.Mathlib.Nat.{le_refl}
 use Rattle.table_entries.proofs.Entries.{trim_entry}
 use Rattle.table_entries.specs.Trim.{trimmed}
-use Prim.Native.Nat.{◌-◌}
 use native.Mathlib.Omega.{arith}
 use Rattle.table_entries.proofs.Filled.{filled_more, filled_all}
 use Rattle.table_entries.proofs.entry.trim.Goals as goal

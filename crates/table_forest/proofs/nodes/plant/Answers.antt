@@ -22,29 +22,34 @@ module _ (s : After-instead-second) where
 
 pub returns-then-a-b : goal.returns-then-a-b
 returns-then-a-b c g =
-    as-given (at.returns-then-a-b c).After-instead-second _ _ (tied_alike _ _ _ _ g c.requires.1 (first-le (at.returns-then-a-b c).After-instead-second) (second-le (at.returns-then-a-b c).After-instead-second) c.if-a-b.true)
+    let s = (at.returns-then-a-b c).After-instead-second in
+    as-given s _ _ (tied_alike _ _ _ _ g c.requires.1 (first-le s) (second-le s) c.if-a-b.true)
 
 pub find-x-requires : goal.find-x-requires
 find-x-requires c =
-    led_planted _ _ _ _ c.requires.0 c.requires.1 (first-le (at.find-x-requires c).After-instead-second) (second-le (at.find-x-requires c).After-instead-second)
+    let s = (at.find-x-requires c).After-instead-second in
+    led_planted _ _ _ _ c.requires.0 c.requires.1 (first-le s) (second-le s)
 
 pub find-y-requires : goal.find-y-requires
 find-y-requires c =
+    let s = (at.find-y-requires c).After-instead-second in
     let (g, h, _, _) = c.requires in
-    found_planted _ _ _ _ g h (first-le (at.find-y-requires c).After-instead-second) (second-le (at.find-y-requires c).After-instead-second) _ _
-    (c.find-x.ensures (led_planted _ _ _ _ g h (first-le (at.find-y-requires c).After-instead-second) (second-le (at.find-y-requires c).After-instead-second)))
+    found_planted _ _ _ _ g h (first-le s) (second-le s) _ _
+    (c.find-x.ensures (led_planted _ _ _ _ g h (first-le s) (second-le s)))
 
 pub link-root-requires : goal.link-root-requires
 link-root-requires c =
+    let s = (at.link-root-requires c).After-instead-second in
     let (g, h, _, _) = c.requires in
-    let x = c.find-x.ensures (led_planted _ _ _ _ g h (first-le (at.link-root-requires c).After-instead-second) (second-le (at.link-root-requires c).After-instead-second)) in
-    let y = c.find-y.ensures (found_planted _ _ _ _ g h (first-le (at.link-root-requires c).After-instead-second) (second-le (at.link-root-requires c).After-instead-second) _ _ x) in
-    roots_room _ _ _ _ g h (first-le (at.link-root-requires c).After-instead-second) (second-le (at.link-root-requires c).After-instead-second) _ _ x _ _ y
+    let x = c.find-x.ensures (led_planted _ _ _ _ g h (first-le s) (second-le s)) in
+    let y = c.find-y.ensures (found_planted _ _ _ _ g h (first-le s) (second-le s) _ _ x) in
+    roots_room _ _ _ _ g h (first-le s) (second-le s) _ _ x _ _ y
 
 pub returns : goal.returns
 returns c g =
+    let s = (at.returns c).After-instead-second in
     let h = c.requires.1 in
-    let x = c.find-x.ensures (led_planted _ _ _ _ g h (first-le (at.returns c).After-instead-second) (second-le (at.returns c).After-instead-second)) in
-    let y = c.find-y.ensures (found_planted _ _ _ _ g h (first-le (at.returns c).After-instead-second) (second-le (at.returns c).After-instead-second) _ _ x) in
-    as-given (at.returns c).After-instead-second _ _
-    (tied _ _ _ _ g h (first-le (at.returns c).After-instead-second) (second-le (at.returns c).After-instead-second) _ _ x _ _ y _ _ c.link-root.ensures.smaller c.link-root.ensures.linked)
+    let x = c.find-x.ensures (led_planted _ _ _ _ g h (first-le s) (second-le s)) in
+    let y = c.find-y.ensures (found_planted _ _ _ _ g h (first-le s) (second-le s) _ _ x) in
+    let l = c.link-root.ensures in
+    as-given s _ _ (tied _ _ _ _ g h (first-le s) (second-le s) _ _ x _ _ y _ _ l.smaller l.linked)

@@ -1,5 +1,5 @@
 use native.Mathlib.Omega.{arith}
-use Rattle.point_darts.specs.Dart.{mark, point, beside, far, reversal}
+use Rattle.point_darts.specs.Dart.{mark, point, far, reversal}
 use Rattle.point_darts.proofs.Darts.{direction_below}
 use Rattle.point_darts.proofs.Back.{back_fits}
 use Rattle.point_darts.proofs.dart.Dart.back.Goals as goal

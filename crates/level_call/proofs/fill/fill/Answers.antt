@@ -1,0 +1,71 @@
+use mathlib.Core.Path.{sym, ap, ◌∙◌}
+use Prim.Native.Nat.{◌+◌}
+use lib.ListN.{take}
+use lib.Seq.{length-take-le, length_front}
+use native.Mathlib.Omega.{arith}
+use Rattle.table_entries.proofs.Cleared.{cleared_same}
+use Rattle.region_names.proofs.Room.{points_part, surround_part}
+use Rattle.level_call.proofs.Tables.{filled_tables}
+use Rattle.level_call.proofs.fill.fill.Goals as goal
+
+pub slice_bounds-numbered-end : goal.slice_bounds-numbered-end
+slice_bounds-numbered-end c =
+    let m = c.name_cells.auto.1.1.1.1.0 in
+    omega (arith, c.requires.7, m, surround_part _ _ _ c.points-points.ensures)
+
+pub slice_bounds-numbered-end-2 : goal.slice_bounds-numbered-end-2
+slice_bounds-numbered-end-2 c =
+    let m = c.name_cells.auto.1.1.1.1.0 in
+    sym (length-take-le _ _ (omega (arith, c.requires.7, m, surround_part _ _ _ c.points-points.ensures)))
+
+pub slice_bounds-numbered-end-3 : goal.slice_bounds-numbered-end-3
+slice_bounds-numbered-end-3 c =
+    omega (arith, c.requires.8, points_part _ _ _ c.points-points.ensures)
+
+pub slice_bounds-numbered-end-4 : goal.slice_bounds-numbered-end-4
+slice_bounds-numbered-end-4 c =
+    sym (length-take-le _ _ (omega (arith, c.requires.8, points_part _ _ _ c.points-points.ensures)))
+
+pub slice_bounds-numbered-end-5 : goal.slice_bounds-numbered-end-5
+slice_bounds-numbered-end-5 c =
+    omega (arith, c.requires.9, points_part _ _ _ c.points-points.ensures)
+
+pub slice_bounds-numbered-end-6 : goal.slice_bounds-numbered-end-6
+slice_bounds-numbered-end-6 c =
+    sym (length-take-le _ _ (omega (arith, c.requires.9, points_part _ _ _ c.points-points.ensures)))
+
+pub numbered-requires : goal.numbered-requires
+numbered-requires c =
+    let q = c.requires in
+    let a = c.args in
+    let k = c.name_cells.auto.1.1.1 in
+    let e = c.points-points.ensures in (
+      q.0,
+      q.1,
+      length-take-le _ _ (omega (arith, q.7, k.1.0, surround_part _ _ _ e)) ∙ ap (λ m. m + c.args.width + 2) e,
+      k.0 ∙ q.6,
+      length-take-le _ _ (omega (arith, q.8, points_part _ _ _ e)) ∙ e,
+      length-take-le _ _ (omega (arith, q.9, points_part _ _ _ e)) ∙ e,
+      q.3,
+      q.4,
+      q.5,
+      record {
+        sheet = a.sheet.now;
+        names = ap (λ i. take (i + a.width + 2) c.name_cells.new.1.1.1.1.0) e ∙ c.name_cells.ensures;
+      },
+    )
+
+pub returns : goal.returns
+returns c =
+    let a = c.args in
+    let k = c.numbered.auto.1.1.1.1 in
+    let l = c.numbered.last.1.1.1.1 in
+    let m = c.name_cells.auto.1.1.1 in (
+      filled_tables a.width a.height a.level a.sheet.now _ _ c.requires.0
+          (ap (λ i. take (i + a.width + 2) c.name_cells.last.1.1.1.1.0) c.points-points.ensures ∙ c.name_cells.ensures)
+          c.numbered.ensures,
+      c.clear_four.ensures
+          ∙ cleared_same _ _ _ _ a.a.now a.b.now a.c.now a.d.now (k.0 ∙ m.0) m.1.0
+          (length_front a.c.now l.1.0 c.points-points.result k.1.0)
+          (length_front a.d.now l.1.1.0 c.points-points.result k.1.1.0),
+    )
