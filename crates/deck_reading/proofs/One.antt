@@ -32,7 +32,7 @@ use Rattle.deck_faults.proofs.Rows.{heading_width, heading_height, heading_heade
 use Rattle.deck_writing.specs.Writing.{row_deck, deck_of, deck_length, written as answered, bytes_after, writing}
 use Rattle.deck_writing.proofs.Punching.{writing_done}
 use Rattle.deck_reading.specs.Judging.{rows, judged}
-use Rattle.deck_reading.proofs.Answers.{stopped_none, rows-done, rows_next, Deck, judged-sheet, judged-go, judged_refused}
+use Rattle.deck_reading.proofs.Answers.{stopped_none, rows-done, rows_next, judged-sheet, judged-go, judged_refused}
 use Rattle.deck_reading.specs.Reading.{room, cells, filled, reading}
 use Rattle.deck_reading.proofs.Outcomes.{reading_table, reading_refused, reading_sheet}
 use Rattle.deck_reading.proofs.Filling.{part_is, length_part, length_cells}

@@ -2,17 +2,17 @@
 --   theirs o p e r  == a present region of the editor e has the name r, by the owners o and the parents p
 --   named k o p e a b == the number of the first test of the names a and b that is not passed, where k, the number before, is 0
 --   asked k ..      == the number after a check with the number k
-use mathlib.Core.Path.{◌≡◌, refl, sym, ap, ◌∙◌}
-use mathlib.Core.Bool.{Bool, true, false, cond, not, ◌&&◌, ◌||◌}
+use mathlib.Core.Path.{◌≡◌, refl, sym, ◌∙◌}
+use mathlib.Core.Bool.{Bool, true, false, cond, not, ◌&&◌}
 use mathlib.Core.List.{List, [], ◌∷◌, ◌++◌}
 use mathlib.Core.Logic.{◌≢◌}
 use Prim.Native.Nat.{ℕ}
 use native.Mathlib.Omega.{arith}
 use lib.Dec.{eqb, lit<}
-use borrow.Author.Tests.{eqb-true, eqb-false, eq-eqb, ne_eqb, not-true, not-false}
+use borrow.Author.Tests.{eqb-true, eq-eqb, ne_eqb, not-true, not-false}
 use Rattle.laws.specs.First.{first_failed, numbered}
-use Rattle.laws.proofs.First.{Passed, all_passed, failed_append}
-use Rattle.laws.proofs.Test.{and_true, and_left, and_right}
+use Rattle.laws.proofs.First.{all_passed, failed_append}
+use Rattle.laws.proofs.Test.{and_left, and_right}
 use Rattle.point_darts.specs.Dart.{mark}
 use Rattle.paper.specs.Joining.{at, on}
 use Rattle.paper.specs.Refusal.{used, adjoin, name_tests, pair_tests}

@@ -6,7 +6,7 @@ use mathlib.Core.Path.{◌≡◌, refl, sym, ap, ◌∙◌}
 use mathlib.Core.Bool.{Bool, true, false, cond, not, ◌&&◌, ◌||◌, false≢true}
 use mathlib.Core.List.{List, [], ◌∷◌}
 use mathlib.Core.Logic.{◌≢◌}
-use Prim.Native.Nat.{ℕ, zero, suc, ◌+◌, ◌*◌, ◌<◌}
+use Prim.Native.Nat.{ℕ, zero, suc, ◌+◌, ◌*◌}
 use native.Mathlib.Omega.{arith}
 use lib.Dec.{eqb}
 use lib.ListN.{length}
@@ -19,7 +19,7 @@ use Rattle.paper.specs.Drawing.{Tables, is_drawing}
 use Rattle.paper.specs.Joining.{joined}
 use Rattle.paper.specs.Refusal.{ended, outcome, work_left, cleared, seven, stated, size_tests, given_tests}
 use Rattle.paper.specs.Sitting.{Joinable}
-use Rattle.paper.specs.Editor.{Call, call, is_editor, owned, lent, own_tests, call_tests, reply, after, edited}
+use Rattle.paper.specs.Editor.{call, is_editor, owned, lent, own_tests, call_tests, reply, after, edited}
 use Rattle.paper_laws.proofs.Editors.{own_numbered, own_joinable}
 use Rattle.answer.specs.declared.Answer.{Answer}
 use Rattle.answer.specs.Answer.{number_of, told}
@@ -124,7 +124,8 @@ module _ (w h : ℕ) (o : List ℕ) (t : Tables) (e a b : ℕ) (ws : List (List 
           by : (k : Bool) → eqb early 0 ≡ k → cond k (first_failed names) early ≡ 0 → (number_of v ≡ 0) × Joinable w h t a b
           by true p q = (
             given_number w h t ws v vs c
-                ∙ judged_none (first_failed (given_tests w h t ws)) 11 (is_editor e && owned o) (λ i. omega (arith, i)) (eqb-true early 0 p),
+                ∙ judged_none (first_failed (given_tests w h t ws)) 11 (is_editor e && owned o) (λ i. omega (arith, i))
+                (eqb-true early 0 p),
             own_joinable w h o t e a b q,
           )
           by false p q = absurd (eqb-false early 0 p q)

@@ -20,8 +20,8 @@ module _ (c : Else-not-is_known) where
   is_known : known c.args.parent.now c.args.name ≡ true
   is_known = sym c.is_known.ensures ∙ c.if-not-is_known.false
 
-  name-small : c.args.name < mark
-  name-small =
+  name_small : c.args.name < mark
+  name_small =
       let l = c.requires done in
       omega (arith, l.fits, known_in _ l.some _ is_known)
 
@@ -36,11 +36,12 @@ returns-then-not-is_known c =
 pub holes-requires : goal.holes-requires
 holes-requires c =
     let l = c.requires (done (at.holes-requires c).Else-not-is_known) in
-    (l.size, l.sides, l.work, name-small (at.holes-requires c).Else-not-is_known)
+    (l.size, l.sides, l.work, name_small (at.holes-requires c).Else-not-is_known)
 
 pub returns : goal.returns
 returns c =
     let l = c.requires (done (at.returns c).Else-not-is_known) in (
-      rw (← (l.rounds _ (name-small (at.returns c).Else-not-is_known)), ← c.holes.ensures.0) (after_is _ _ _ (done (at.returns c).Else-not-is_known) (is_known (at.returns c).Else-not-is_known)),
+      rw (← (l.rounds _ (name_small (at.returns c).Else-not-is_known)), ← c.holes.ensures.0)
+          (after_is _ _ _ (done (at.returns c).Else-not-is_known) (is_known (at.returns c).Else-not-is_known)),
       c.holes.ensures.1 ∙ l.clear,
     )

@@ -1,6 +1,5 @@
+use mathlib.Core.Path.{sym, ap, ◌∙◌}
 use mathlib.Core.Bool.{not}
-use mathlib.Core.Path.{ap}
-use mathlib.Core.Path.{sym, ◌∙◌}
 use native.Mathlib.Omega.{arith}
 use Rattle.point_darts.proofs.Fit.{cells_fit}
 use Rattle.table_entries.proofs.Front.{front_in, front_long, front_back, back_in, back_long}

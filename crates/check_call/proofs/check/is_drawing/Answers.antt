@@ -1,6 +1,5 @@
+use mathlib.Core.Path.{ap, ◌∙◌}
 use mathlib.Core.Bool.{not}
-use mathlib.Core.Path.{ap}
-use mathlib.Core.Path.{◌∙◌}
 use Rattle.table_lengths.proofs.Tested.{stated_slots}
 use Rattle.drawing.specs.Parts.{round_of}
 use Rattle.region_totals.proofs.Paper.{framed_below}

@@ -1,8 +1,8 @@
 use mathlib.Core.Path.{◌≡◌, sym, ◌∙◌}
-use Prim.Native.Nat.{◌+◌, ◌-◌, ◌≤◌}
+use Prim.Native.Nat.{◌+◌, ◌≤◌}
 use native.Mathlib.Omega.{arith}
 use lib.ListN.{length}
-use Rattle.deck_card.specs.Card.{long, card}
+use Rattle.deck_card.specs.Card.{card}
 use Rattle.deck_card.proofs.Cards.{length_card}
 use Rattle.deck_card.proofs.Every.{equal_stop, equal_go, equal_end}
 use Rattle.deck_card.proofs.bytes.agrees.Goals.{Start}

@@ -6,7 +6,6 @@ use Rattle.deck_card.specs.Card.{columns, places, long, part}
 use Rattle.deck_layout.specs.Layout.{held}
 use Rattle.deck_layout.proofs.Sizes.{cards_few}
 use Rattle.deck_card.proofs.Table.{rest_all}
-use Rattle.deck_reading.specs.Reading.{cells}
 use Rattle.deck_reading.proofs.Answers.{Deck, judged-sheet, header-whole}
 use Rattle.deck_reading.proofs.Filling.{filling_none, filling_room, filling_whole}
 use Rattle.deck_reading.proofs.Filling.{filling_turn, filling_within, filling_end}

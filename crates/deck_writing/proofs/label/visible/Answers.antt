@@ -1,5 +1,4 @@
 use mathlib.Core.Path.{sym, ◌∙◌}
-use Prim.Native.Nat.{◌-◌}
 use Rattle.deck_card.specs.Card.{lowest, highest, visible}
 use Rattle.laws.proofs.Every.{every_stop, every_go, every_end}
 use Rattle.deck_card.proofs.Every.{from_to_below, from_to_above, from_to_inside}

@@ -1,5 +1,4 @@
 use mathlib.Core.List.{◌++◌}
-use Prim.Native.Nat.{◌+◌}
 use lib.ListN.{take}
 use Rattle.deck_card.specs.Card.{long}
 use Rattle.deck_layout.specs.Layout.{row_cards}

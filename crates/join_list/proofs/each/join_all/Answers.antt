@@ -70,8 +70,8 @@ draw_names-requires c =
     let k = c.regroup-end.auto in
     let g = c.regroup-end.ensures _ o.drawn refl refl in (
       o.size,
-      regrouped_stated _ _ _ _ _ _ _ _ _ _ _ _ _ _ _ _ _ _ o.sizes k.cells (fronted (at.draw_names-requires c).After-regroup-end) k.list k.first
-          k.last,
+      regrouped_stated _ _ _ _ _ _ _ _ _ _ _ _ _ _ _ _ _ _ o.sizes k.cells (fronted (at.draw_names-requires c).After-regroup-end)
+          k.list k.first k.last,
       record { labels = g.labels; round = g.round },
     )
 

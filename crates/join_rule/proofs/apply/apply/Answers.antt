@@ -14,16 +14,16 @@ find_parents-requires c =
     let q = c.requires in
     let z = stated_slots _ _ _ _ q.sizes in (
       q.size,
-      c.unite.auto.1.1.1.1.1.0 ∙ z.1.0,
+      c.unite.auto.side1 ∙ z.1.0,
       (stated_names _ _ _ _ q.sizes).0,
-      c.unite.auto.1.1.1.1.1.1.1.1.1.1.0 ∙ z.1.1.1.1.0,
+      c.unite.auto.back ∙ z.1.1.1.1.0,
       c.unite.ensures.1,
     )
 
 pub returns : goal.returns
 unfolding joined rest1 rest3
 returns c =
-    let k = c.unite.auto.1.1.1.1.1.1.1.1.1.1 in (
+    (
       rw c.find_parents.ensures.0 c.unite.ensures.0,
-      c.find_parents.ensures.1 ∙ cleared_long _ _ _ _ k.0 k.1.0,
+      c.find_parents.ensures.1 ∙ cleared_long _ _ _ _ c.unite.auto.back c.unite.auto.list,
     )

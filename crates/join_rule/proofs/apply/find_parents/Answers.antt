@@ -13,15 +13,15 @@ use Rattle.join_rule.proofs.apply.find_parents.Goals.at as at
 use Rattle.join_rule.proofs.apply.find_parents.Goals as goal
 
 -- The tops are a front of the table.
-tops-room : (c : After-points-n) → c.points-n.result ≤ length c.args.back.now
+tops_room : (c : After-points-n) → c.points-n.result ≤ length c.args.back.now
 unfolding slots
-tops-room c = omega (arith, c.requires.3, c.points-n.ensures)
+tops_room c = omega (arith, c.requires.3, c.points-n.ensures)
 
 pub slice_bounds-find_parents-end : goal.slice_bounds-find_parents-end
-slice_bounds-find_parents-end c = tops-room c
+slice_bounds-find_parents-end c = tops_room c
 
 pub slice_bounds-find_parents-end-2 : goal.slice_bounds-find_parents-end-2
-slice_bounds-find_parents-end-2 c = sym (length-take-le _ _ (tops-room (at.slice_bounds-find_parents-end-2 c).After-slice_known-3-1))
+slice_bounds-find_parents-end-2 c = sym (length-take-le _ _ (tops_room (at.slice_bounds-find_parents-end-2 c).After-points-n))
 
 pub find_parents-requires : goal.find_parents-requires
 find_parents-requires c =
@@ -29,7 +29,7 @@ find_parents-requires c =
     let a = c.args in
     let e = c.points-n.ensures in (
       q.0,
-      length-take-le _ _ (tops-room (at.find_parents-requires c).After-slice_known-3-1) ∙ e,
+      length-take-le _ _ (tops_room (at.find_parents-requires c).After-points-n) ∙ e,
       tops_rising _ _ (on a.side1.now) _ (ap (λ n. take n a.back.now) e ∙ q.4),
       q.2,
       q.1,

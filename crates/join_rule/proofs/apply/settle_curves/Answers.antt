@@ -11,8 +11,8 @@ close-requires c =
       q.5,
       q.1,
       q.2,
-      c.smooth.auto.1.1.1.1.1.1.0 ∙ q.3,
-      c.top_points.auto.1.1.1.0 ∙ q.4,
+      c.smooth.auto.next ∙ q.3,
+      c.top_points.auto.top ∙ q.4,
       tops_rising _ _ _ _ c.top_points.ensures,
       rw (c.top_points.ensures, c.smooth.ensures) q.6.closing,
     )

@@ -7,10 +7,10 @@ pub links-requires : goal.links-requires
 links-requires c =
     let s = c.requires in (
       s.0,
-      c.keep_points.auto.1.1.1.1.1.0 ∙ s.7,
+      c.keep_points.auto.scratch ∙ s.7,
       s.8,
-      c.nexts.auto.1.1.1.0 ∙ s.4,
-      c.keep_points.auto.1.1.1.1.1.1.0 ∙ s.6,
+      c.nexts.auto.next ∙ s.4,
+      c.keep_points.auto.kept ∙ s.6,
       runs_level _ _ _ _ _ _ _ _ s.0 s.10 c.masks.ensures c.nexts.ensures c.sides.ensures
           c.keep_points.ensures,
     )

@@ -27,20 +27,20 @@ slice_bounds-keeps-end c =
     let t = c.top_points in
     let a = c.args in
     let e = c.points-n.ensures in
-    back_in _ _ a.scratch.now c.requires.3 (points_part _ _ _ e) t.new.1.1.1.0 t.auto.1.1.1.0
+    back_in _ _ a.scratch.now c.requires.3 (points_part _ _ _ e) t.new.top t.auto.top
 
 pub slice_bounds-keeps-end-2 : goal.slice_bounds-keeps-end-2
 slice_bounds-keeps-end-2 c =
     let t = c.top_points in
     let a = c.args in
     let e = c.points-n.ensures in
-    sym (back_long _ _ a.scratch.now c.requires.3 (points_part _ _ _ e) t.new.1.1.1.0 t.auto.1.1.1.0)
+    sym (back_long _ _ a.scratch.now c.requires.3 (points_part _ _ _ e) t.new.top t.auto.top)
 
 pub keeps-requires : goal.keeps-requires
 keeps-requires c =
     let t = c.top_points in
     let a = c.args in
     let e = c.points-n.ensures in
-    let l = back_long _ _ a.scratch.now c.requires.3 (points_part _ _ _ e) t.new.1.1.1.0 t.auto.1.1.1.0 in
-    let f = front_back _ _ a.scratch.now c.requires.3 (points_part _ _ _ e) t.new.1.1.1.0 t.auto.1.1.1.0 in
+    let l = back_long _ _ a.scratch.now c.requires.3 (points_part _ _ _ e) t.new.top t.auto.top in
+    let f = front_back _ _ a.scratch.now c.requires.3 (points_part _ _ _ e) t.new.top t.auto.top in
     (c.requires.0, c.requires.2, l ∙ e, c.requires.4, tops_rising _ _ _ _ (f ∙ t.ensures))

@@ -10,12 +10,12 @@ use Rattle.level_call.proofs.fill.fill.Goals as goal
 
 pub slice_bounds-numbered-end : goal.slice_bounds-numbered-end
 slice_bounds-numbered-end c =
-    let m = c.name_cells.auto.1.1.1.1.0 in
+    let m = c.name_cells.auto.round in
     omega (arith, c.requires.7, m, surround_part _ _ _ c.points-points.ensures)
 
 pub slice_bounds-numbered-end-2 : goal.slice_bounds-numbered-end-2
 slice_bounds-numbered-end-2 c =
-    let m = c.name_cells.auto.1.1.1.1.0 in
+    let m = c.name_cells.auto.round in
     sym (length-take-le _ _ (omega (arith, c.requires.7, m, surround_part _ _ _ c.points-points.ensures)))
 
 pub slice_bounds-numbered-end-3 : goal.slice_bounds-numbered-end-3
@@ -38,12 +38,12 @@ pub numbered-requires : goal.numbered-requires
 numbered-requires c =
     let q = c.requires in
     let a = c.args in
-    let k = c.name_cells.auto.1.1.1 in
+    let k = c.name_cells.auto in
     let e = c.points-points.ensures in (
       q.0,
       q.1,
-      length-take-le _ _ (omega (arith, q.7, k.1.0, surround_part _ _ _ e)) ∙ ap (λ m. m + c.args.width + 2) e,
-      k.0 ∙ q.6,
+      length-take-le _ _ (omega (arith, q.7, k.round, surround_part _ _ _ e)) ∙ ap (λ m. m + c.args.width + 2) e,
+      k.first ∙ q.6,
       length-take-le _ _ (omega (arith, q.8, points_part _ _ _ e)) ∙ e,
       length-take-le _ _ (omega (arith, q.9, points_part _ _ _ e)) ∙ e,
       q.3,
@@ -51,21 +51,21 @@ numbered-requires c =
       q.5,
       record {
         sheet = a.sheet.now;
-        names = ap (λ i. take (i + a.width + 2) c.name_cells.new.1.1.1.1.0) e ∙ c.name_cells.ensures;
+        names = ap (λ i. take (i + a.width + 2) c.name_cells.new.round) e ∙ c.name_cells.ensures;
       },
     )
 
 pub returns : goal.returns
 returns c =
     let a = c.args in
-    let k = c.numbered.auto.1.1.1.1 in
-    let l = c.numbered.last.1.1.1.1 in
-    let m = c.name_cells.auto.1.1.1 in (
+    let k = c.numbered.auto in
+    let l = c.numbered.new in
+    let m = c.name_cells.auto in (
       filled_tables a.width a.height a.level a.sheet.now _ _ c.requires.0
-          (ap (λ i. take (i + a.width + 2) c.name_cells.last.1.1.1.1.0) c.points-points.ensures ∙ c.name_cells.ensures)
+          (ap (λ i. take (i + a.width + 2) c.name_cells.new.round) c.points-points.ensures ∙ c.name_cells.ensures)
           c.numbered.ensures,
       c.clear_four.ensures
-          ∙ cleared_same _ _ _ _ a.a.now a.b.now a.c.now a.d.now (k.0 ∙ m.0) m.1.0
-          (length_front a.c.now l.1.0 c.points-points.result k.1.0)
-          (length_front a.d.now l.1.1.0 c.points-points.result k.1.1.0),
+          ∙ cleared_same _ _ _ _ a.a.now a.b.now a.c.now a.d.now (k.next1 ∙ m.first) m.round
+          (length_front a.c.now l.masks c.points-points.result k.masks)
+          (length_front a.d.now l.kept c.points-points.result k.kept),
     )

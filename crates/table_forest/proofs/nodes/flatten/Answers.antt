@@ -1,4 +1,3 @@
-use Prim.Native.Nat.{◌-◌}
 use Rattle.table_forest.proofs.Label.{flattened_all, flattened_again}
 use Rattle.table_forest.proofs.nodes.flatten.Goals as goal
 

@@ -1,0 +1,39 @@
+use mathlib.Core.Path.{sym, ◌∙◌}
+use Prim.Native.Nat.{◌<◌}
+use native.Mathlib.Omega.{arith}
+use lib.ListN.{length}
+use Rattle.join_groups.proofs.Entries.{whole_most}
+use Rattle.join_groups.proofs.Pairing.{done_none}
+use Rattle.join_groups.proofs.Stopping.{stood_end, stood_stops, stood_on}
+use Rattle.join_groups.proofs.each.join_each.Goals.{In-loop-rest}
+use Rattle.join_groups.proofs.each.join_each.Goals.at as at
+use Rattle.join_groups.proofs.each.join_each.Goals as goal
+
+-- An entry is left.
+more : (c : In-loop-rest) → 1 < length c.loop-rest.rest.now
+more c = omega (arith, c.loop-rest-test.true)
+
+pub join_pair-answer-requires : goal.join_pair-answer-requires
+join_pair-answer-requires c =
+    let (h, u, v) = c.requires.1 in
+    let o = c.loop-rest.invariant h u v in
+    (h, o.tables, o.standing)
+
+pub returns-then-number-ne0 : goal.returns-then-number-ne0
+returns-then-number-ne0 c h u v =
+    stood_stops _ h _ u _ _ _ _ _ _ _ _ (c.loop-rest.invariant h u v) (more (at.returns-then-number-ne0 c).In-loop-rest) _ _ _ _ _ c.join_pair-answer.ensures
+    (λ y. c.if-number-ne0.true (c.number.ensures ∙ y))
+
+pub overflow_add-place : goal.overflow_add-place
+overflow_add-place c =
+    let (w, p) = c.requires in
+    let (h, u, v) = p in
+    omega (arith, (c.loop-rest.invariant h u v).going.long, whole_most _ _ w)
+
+pub loop-rest-preserved : goal.loop-rest-preserved
+loop-rest-preserved c = λ h u v.
+    stood_on _ h _ u _ _ _ _ _ _ _ _ (c.loop-rest.invariant h u v) (more (at.loop-rest-preserved c).In-loop-rest) _ _ _ _ _ c.join_pair-answer.ensures
+    (sym c.number.ensures ∙ c.if-number-ne0.false)
+
+pub returns : goal.returns
+returns c h u v = rw done_none (stood_end _ h _ u _ _ _ _ _ _ _ _ (c.loop-rest.invariant h u v) c.loop-rest-test.false)
