@@ -1,6 +1,7 @@
 // What the steps of the removal rule share: the darts that leave a point, lists of the darts of two regions, reversals, and links
 // in two tables.
 #![tactic(auto)]
+
 pub mod back;
 pub mod ends;
 pub mod list;

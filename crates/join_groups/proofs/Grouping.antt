@@ -4,11 +4,10 @@
 use mathlib.Core.Path.{◌≡◌, refl, sym, ap, ◌∙◌}
 use mathlib.Core.List.{List, [], ◌∷◌, map}
 use mathlib.Core.Logic.{◌⊎◌, ⊎_elim}
-use Prim.Native.Nat.{ℕ, zero, suc, ◌+◌, ◌-◌, ◌*◌, ◌<◌, ◌≤◌, zero-le}
+use Prim.Native.Nat.{ℕ, zero, suc, ◌-◌, ◌*◌, ◌<◌, ◌≤◌, zero-le}
 use native.Mathlib.Decide.{dec_lt}
 use native.Mathlib.Omega.{arith}
-use lib.ListN
-use lib.ListN.{length, get_or, length-map, get_or-eq_default}
+use lib.ListN.{length, get_or, length-map, get_or-map, get_or-eq_default}
 use lib.Seq.{ext_get_or}
 use Rattle.laws.specs.Least.{lower, least}
 use Rattle.laws.proofs.Least.{lower_cases, get_or_lower}
@@ -111,7 +110,7 @@ module _ (w h : ℕ) (room : slots w h ≤ mark) where
             (λ i b.
             let c : i < w * h = rw (length-map l suc, first_long w h q) at b in
             let p = get_d_map suc l i 0 0 (omega (arith, first_long w h q)) in
-            p ∙ ap suc (sym (first_own w h q i c)) ∙ sym (ListN.get_d_map (group_of l) (map suc l) i 0 ∙ ap (group_of l) p));
+            p ∙ ap suc (sym (first_own w h q i c)) ∙ sym (get_or-map (group_of l) (map suc l) i 0 ∙ ap (group_of l) p));
       }
 
   -- A join makes one of two groups.

@@ -19,7 +19,7 @@ use Rattle.point_darts.proofs.Fit.{row_fit, dart_fits}
 use Rattle.paper.specs.Name.{names}
 use Rattle.paper.specs.Enclosure.{top_side}
 use Rattle.paper.specs.Drawing.{Tables, drawn, drawing, Drawn}
-use Rattle.paper.specs.Joining.{at, on}
+use Rattle.paper.specs.Joining.{at}
 use Rattle.paper.specs.Refusal.{used, name_tests, adjoin}
 use Rattle.paper_laws.proofs.Marks.{within_fits, cells_slots}
 use Rattle.paper_laws.proofs.InUse.{used_cells}

@@ -11,7 +11,6 @@ use Rattle.laws.specs.First.{first_failed}
 use Rattle.paper.specs.Drawing.{Tables}
 use Rattle.paper.specs.Joining.{joined}
 use Rattle.paper.specs.Refusal.{pair_tests}
-use Rattle.paper.specs.Order.{joins}
 use Rattle.join_groups.specs.Group.{Standing, Stopped}
 use Rattle.join_groups.proofs.Entries.{Going, going_start, going_end, going_stops, going_on}
 

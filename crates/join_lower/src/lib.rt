@@ -1,3 +1,4 @@
 // Step 5 of the removal rule, sides: the names a and b become the smaller of the two.
 #![tactic(auto)]
+
 pub mod side;

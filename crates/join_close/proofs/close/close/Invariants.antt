@@ -9,8 +9,11 @@ use Rattle.join_close.proofs.close.close.Given as goal
 
 abbrev pub invariant-loop-dart : goal.invariant-loop-dart
 invariant-loop-dart l =
-    (g : Visited (closes (on l.lines) l.tops) (close (on l.lines) l.tops) (links l.initial.next l.initial.other) (slots l.width l.height) l.first l.list)
-    → Going (closes (on l.lines) l.tops) (close (on l.lines) l.tops) (closes_none (on l.lines) l.tops) (closes_more (on l.lines) l.tops) l.width l.height
+    (g : Visited (closes (on l.lines) l.tops) (close (on l.lines) l.tops) (links l.initial.next l.initial.other)
+    (slots l.width l.height) l.first l.list)
+    → Going (closes (on l.lines) l.tops) (close (on l.lines) l.tops) (closes_none (on l.lines) l.tops) (closes_more (on l.lines) l.tops)
+    l.width
+    l.height
     (links l.initial.next l.initial.other)
     l.first
     l.list

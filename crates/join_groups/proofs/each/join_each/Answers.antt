@@ -21,7 +21,8 @@ join_pair-answer-requires c =
 
 pub returns-then-number-ne0 : goal.returns-then-number-ne0
 returns-then-number-ne0 c h u v =
-    stood_stops _ h _ u _ _ _ _ _ _ _ _ (c.loop-rest.invariant h u v) (more (at.returns-then-number-ne0 c).In-loop-rest) _ _ _ _ _ c.join_pair-answer.ensures
+    let m = more (at.returns-then-number-ne0 c).In-loop-rest in
+    stood_stops _ h _ u _ _ _ _ _ _ _ _ (c.loop-rest.invariant h u v) m _ _ _ _ _ c.join_pair-answer.ensures
     (λ y. c.if-number-ne0.true (c.number.ensures ∙ y))
 
 pub overflow_add-place : goal.overflow_add-place
@@ -32,7 +33,8 @@ overflow_add-place c =
 
 pub loop-rest-preserved : goal.loop-rest-preserved
 loop-rest-preserved c = λ h u v.
-    stood_on _ h _ u _ _ _ _ _ _ _ _ (c.loop-rest.invariant h u v) (more (at.loop-rest-preserved c).In-loop-rest) _ _ _ _ _ c.join_pair-answer.ensures
+    let m = more (at.loop-rest-preserved c).In-loop-rest in
+    stood_on _ h _ u _ _ _ _ _ _ _ _ (c.loop-rest.invariant h u v) m _ _ _ _ _ c.join_pair-answer.ensures
     (sym c.number.ensures ∙ c.if-number-ne0.false)
 
 pub returns : goal.returns

@@ -33,7 +33,7 @@ frame-requires c =
     let (z, n, l, g) = c.requires in
     let e = c.points.ensures in (
       z,
-      c.flatten.auto.0 ∙ n,
+      c.flatten.auto.nodes ∙ n,
       forest_down _ _ _ _ _ (c.flatten.ensures g) g.forest,
       front_long _ _ c.args.round.now l (surround_part _ _ _ e) ∙ ap (λ n. n + c.args.width + 2) e,
     )
@@ -42,6 +42,6 @@ pub returns : goal.returns
 returns c l g =
     let e = c.points.ensures in
     rw (← e)
-    (front_back _ _ c.args.round.now c.requires.2 (surround_part _ _ _ e) c.frame.new.1.1.1.0 c.frame.auto.1.1.1.0)
+    (front_back _ _ c.args.round.now c.requires.2 (surround_part _ _ _ e) c.frame.new.names c.frame.auto.names)
     ∙ c.frame.ensures
     ∙ ap (λ u. framed c.args.width c.args.height (map suc u)) (c.flatten.ensures (record { labels = l; forest = g }))

@@ -19,6 +19,6 @@ list_sides-requires c =
 pub returns : goal.returns
 returns c t d q =
     let p = c.requires in
-    let k = c.list_sides.auto.1 in
+    let k = c.list_sides.auto in
     standing_first _ _ p.0 t d _ q p.1 _ _ _ _ _ c.recover.ensures c.take_one.ensures
-    (c.take_one.auto.0 ∙ c.recover.auto.1.1.1.0 ∙ p.2) (k.0 ∙ p.3) (k.1.0 ∙ p.4) (k.1.1.0 ∙ p.5) c.list_sides.ensures
+    (c.take_one.auto.names ∙ c.recover.auto.labels ∙ p.2) (k.list ∙ p.3) (k.first ∙ p.4) (k.last ∙ p.5) c.list_sides.ensures

@@ -1,6 +1,5 @@
 use mathlib.Core.Bool.{not}
-use mathlib.Core.Path.{ap}
-use mathlib.Core.Path.{sym, ◌∙◌}
+use mathlib.Core.Path.{sym, ap, ◌∙◌}
 use borrow.Author.Tests.{not-false}
 use Rattle.join_groups.proofs.Standing.{Chosen, passed_chosen}
 use Rattle.join_groups.proofs.Pairing.{done_none, apart_some, pair_named, pair_apart, pair_done, pair_ready, standing_joined}
@@ -39,13 +38,13 @@ put_together-requires c =
 pub returns : goal.returns
 returns c h u v =
     let z = sym c.number.ensures ∙ c.if-number-ne0.false in
-    let i = (ap not c.if-not-share.false) in
+    let i = ap not c.if-not-share.false in
     let k = c.put_together.auto in
     let q = c.put_together.ensures in
     let (o, r) = c.share.ensures h _ u v in (
       pair_done _ h _ _ _ _ _ _ u v _ _ _ c.check_names-named.ensures z _ r i,
       λ e.
-          standing_joined _ h _ _ _ _ _ _ u o _ _ (chosen (at.returns c).After-share) (sym r ∙ not-false _ i) _ _ _ _ k.1.1.0 k.1.1.1.0 k.1.1.1.1.0
-          k.1.1.1.1.1.1.0 q.0 q.1.0 q.1.1,
+          standing_joined _ h _ _ _ _ _ _ u o _ _ (chosen (at.returns c).After-share) (sym r ∙ not-false _ i) _ _ _ _
+          k.cells k.groups k.list k.last q.counted q.linked q.listed,
       λ e. absurd (e done_none),
     )

@@ -42,7 +42,7 @@ unfolding mark
 returns-then-group_of-y c l f =
     let r =
     walked_met _ _ _ _ _ _ _ _ _ c.loop-left.invariant c.if-dart.false c.requires.3 (omega (arith, c.loop-left-test.true)) _
-    c.group_of.auto.0 _ _ (facing (at.returns-then-group_of-y c).After-get) c.group_of.ensures c.if-group_of-y.true l f in
+    c.group_of.auto.groups _ _ (facing (at.returns-then-group_of-y c).After-get) c.group_of.ensures c.if-group_of-y.true l f in
     (r.0, λ e. r.1, λ e. absurd (true≢false e))
 
 pub loop-left-preserved : goal.loop-left-preserved
@@ -50,4 +50,4 @@ unfolding mark
 loop-left-preserved c =
     rw c.get-dart.ensures
     (walking_on _ _ _ _ _ _ _ _ _ c.loop-left.invariant c.if-dart.false c.requires.3 (omega (arith, c.loop-left-test.true)) _
-    c.group_of.auto.0 _ _ (facing (at.loop-left-preserved c).After-get) c.group_of.ensures c.if-group_of-y.false)
+    c.group_of.auto.groups _ _ (facing (at.loop-left-preserved c).After-get) c.group_of.ensures c.if-group_of-y.false)

@@ -12,7 +12,7 @@ meets-requires c =
 pub returns-then-get : goal.returns-then-get
 returns-then-get c h e u v =
     meets_told _ h _ _ _ _ _ e u v _ _ _ (passed_chosen _ _ _ c.requires.0) c.get-then-get.ensures _
-    c.meets.auto.1.1.1.1.1.0 _ c.meets.ensures
+    c.meets.auto.groups _ c.meets.ensures
 
 pub meets-requires-2 : goal.meets-requires-2
 meets-requires-2 c =
@@ -24,5 +24,5 @@ pub returns : goal.returns
 returns c h e u v =
     let (o, q) =
     meets_told _ h _ _ _ _ _ e u v _ _ _ (chosen_swap (passed_chosen _ _ _ c.requires.0)) c.get-3.ensures _
-    c.meets-2.auto.1.1.1.1.1.0 _ c.meets-2.ensures in
+    c.meets-2.auto.groups _ c.meets-2.ensures in
     (o, q ∙ adjoin_swap _ h _ _ _)

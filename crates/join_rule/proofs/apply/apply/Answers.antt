@@ -22,8 +22,7 @@ find_parents-requires c =
 
 pub returns : goal.returns
 unfolding joined rest1 rest3
-returns c =
-    (
-      rw c.find_parents.ensures.0 c.unite.ensures.0,
-      c.find_parents.ensures.1 ∙ cleared_long _ _ _ _ c.unite.auto.back c.unite.auto.list,
-    )
+returns c = (
+  rw c.find_parents.ensures.0 c.unite.ensures.0,
+  c.find_parents.ensures.1 ∙ cleared_long _ _ _ _ c.unite.auto.back c.unite.auto.list,
+)

@@ -37,8 +37,7 @@ find_parents-requires c =
 
 pub returns : goal.returns
 unfolding parents
-returns c =
-    (
-      rw (c.points-n.ensures, c.requires.4) at c.find_parents.ensures,
-      pair_cleared _ _ _ _ c.clear.ensures c.clear-2.ensures,
-    )
+returns c = (
+  rw (c.points-n.ensures, c.requires.4) at c.find_parents.ensures,
+  pair_cleared _ _ _ _ c.clear.ensures c.clear-2.ensures,
+)

@@ -12,7 +12,8 @@ abbrev pub invariant-loop-dart : goal.invariant-loop-dart
 invariant-loop-dart l =
     ((g : Bounded l.side l.initial.next l.a l.b (length l.initial.next) l.first l.list)
     → Treated (λ d. cond (shared l.side (at l.other) l.a l.b d) mark (at l.initial.next d)) g.test l.dart l.initial.next l.next)
-    × ((g : Chained (length l.initial.next) l.first l.list) → Counted g.test (shared l.side (at l.other) l.a l.b) (length l.initial.next) l.dart l.gone)
+    × ((g : Chained (length l.initial.next) l.first l.list)
+    → Counted g.test (shared l.side (at l.other) l.a l.b) (length l.initial.next) l.dart l.gone)
 
 abbrev pub decreases-loop-dart : goal.decreases-loop-dart
 decreases-loop-dart l = l.n - l.dart

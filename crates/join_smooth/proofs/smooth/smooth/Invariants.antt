@@ -10,7 +10,11 @@ use Rattle.join_smooth.proofs.smooth.smooth.Given as goal
 abbrev pub invariant-loop-dart : goal.invariant-loop-dart
 invariant-loop-dart l =
     (g : Visited smooths smooth (links l.initial.next l.initial.other) (slots l.width l.height) l.first l.list)
-    → Going smooths smooth smooths_none smooths_more l.width l.height (links l.initial.next l.initial.other) l.first l.list g l.dart (links l.next l.other)
+    → Going smooths smooth smooths_none smooths_more l.width l.height (links l.initial.next l.initial.other) l.first
+    l.list
+    g
+    l.dart
+    (links l.next l.other)
 
 abbrev pub decreases-loop-dart : goal.decreases-loop-dart
 decreases-loop-dart l = l.n - l.dart

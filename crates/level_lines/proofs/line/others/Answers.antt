@@ -1,4 +1,3 @@
-use Prim.Native.Nat.{◌-◌}
 use native.Mathlib.Omega.{arith}
 use Rattle.paper.specs.Level.{marked}
 use Rattle.point_darts.proofs.Fit.{point_fits}

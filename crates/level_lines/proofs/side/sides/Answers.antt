@@ -1,4 +1,3 @@
-use Prim.Native.Nat.{◌-◌}
 use native.Mathlib.Omega.{arith}
 use Rattle.paper.specs.Level.{marked}
 use Rattle.table_entries.proofs.Passed.{passed_none, passed_room, passed_more, passed_all}

@@ -1,4 +1,3 @@
-use Prim.Native.Nat.{◌-◌}
 use native.Mathlib.Omega.{arith}
 use Rattle.table_entries.proofs.Filled.{filled_all}
 use Rattle.level_masks.specs.Mask.{masked}

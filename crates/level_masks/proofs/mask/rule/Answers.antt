@@ -1,7 +1,6 @@
 use Rattle.sheet_size.proofs.Limit.{within_limits}
 use Rattle.point_darts.proofs.Fit.{points_fit}
 use Rattle.level_masks.proofs.Ruling.{ruling_column, ruling_row, ruling_on, ruling_down, ruling_all}
-use Prim.Native.Nat.{◌-◌}
 use native.Mathlib.Omega.{arith}
 use Rattle.level_masks.proofs.mask.rule.Goals as goal
 

@@ -1,4 +1,3 @@
-use Prim.Native.Nat.{◌-◌}
 use lib.ListN.{length}
 use Rattle.region_darts.proofs.Listing.{Listing}
 use Rattle.region_darts.proofs.list.list_sides.Given as goal

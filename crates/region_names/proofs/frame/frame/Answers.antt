@@ -1,4 +1,4 @@
-use Prim.Native.Nat.{◌+◌, ◌*◌, ◌-◌, ◌≤◌}
+use Prim.Native.Nat.{◌+◌, ◌*◌, ◌≤◌}
 use native.Mathlib.Omega.{arith}
 use Rattle.point_darts.specs.Dart.{mark, points}
 use Rattle.point_darts.proofs.Fit.{cells_fit, points_fit, frame_fit}

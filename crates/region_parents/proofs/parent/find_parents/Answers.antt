@@ -1,10 +1,9 @@
 use mathlib.Core.Path.{◌≡◌, ◌∙◌}
-use Prim.Native.Nat.{◌+◌, ◌*◌, ◌-◌, ◌≤◌, ◌<◌}
+use Prim.Native.Nat.{◌+◌, ◌*◌, ◌≤◌, ◌<◌}
 use native.Mathlib.Omega.{arith}
 use lib.ListN.{length, length-set}
 use Rattle.point_darts.specs.Dart.{mark, points, slots, dart}
 use Rattle.point_darts.proofs.Fit.{cells_fit, points_fit}
-use Rattle.paper.specs.Joining.{at}
 use Rattle.region_parents.proofs.Corner.{parented_none, corners_in, names_in, parented_row, parented_all}
 use Rattle.region_parents.proofs.parent.find_parents.Goals.{In-loop-y}
 use Rattle.region_parents.proofs.parent.find_parents.Goals.at as at

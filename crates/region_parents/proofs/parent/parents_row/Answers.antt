@@ -1,4 +1,3 @@
-use Prim.Native.Nat.{◌-◌}
 use native.Mathlib.Omega.{arith}
 use Rattle.point_darts.specs.Dart.{mark, dart}
 use Rattle.table_entries.proofs.Rowed.{rowing_none, rowing_more}

@@ -1,4 +1,3 @@
-use Prim.Native.Nat.{◌-◌}
 use native.Mathlib.Omega.{arith}
 use Rattle.region_totals.specs.Tally.{name_at, lines_at}
 use Rattle.region_totals.proofs.Tallying.{ruled_more}
