@@ -5,11 +5,11 @@
  *   A B A
  *   A A A
  *
- * lists it, joins the pond to the common in the map itself, and lists it again. examples/run builds and runs it, on x86-64
- * or Arm. On x86-64 any C compiler will do, at the root of the repository:
+ * lists it, joins the pond to the common in the map itself, and lists it again. examples/run builds and runs it, on x86-64.
+ * Any C compiler will do, at the root of the repository:
  *
- *   rt staticlib raimenolta
- *   cc examples/pond.c -Iinclude target/staticlib/libraimenolta.a -o pond
+ *   (cd crates/raimenolta && rt lib)
+ *   cc examples/pond.c -Iinclude crates/raimenolta/out/libraimenolta.a -o pond
  *   ./pond
  */
 #include <stdio.h>

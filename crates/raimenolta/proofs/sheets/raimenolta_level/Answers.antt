@@ -1,0 +1,8 @@
+use Rattle.answer.specs.Answer.{told}
+use Rattle.raimenolta.proofs.sheets.raimenolta_level.Goals as goal
+
+pub returns : goal.returns
+unfolding told
+returns c =
+    rw c.number.ensures
+    c.draw-answer.ensures
