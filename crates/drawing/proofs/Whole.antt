@@ -8,7 +8,7 @@ use Rattle.laws.specs.Table.{table}
 use Rattle.sheet_size.specs.Size.{within}
 use Rattle.point_darts.specs.Dart.{mark, points, slots}
 use Rattle.paper.specs.Name.{names}
-use Rattle.paper.specs.Level.{side, border, next, along, plain, tops, kept3, among, level, marked}
+use Rattle.paper.specs.Level.{side, border, along, plain, tops, kept3, among, level, marked}
 use Rattle.paper.specs.Enclosure.{parent, parents}
 use Rattle.paper.specs.Drawing.{Tables, drawn, drawing}
 use Rattle.paper.specs.Joining.{at, on}

@@ -5,6 +5,7 @@ use mathlib.Core.List.{List, [], ◌∷◌}
 use Prim.Native.Nat.{ℕ}
 use lib.Dec.{eqb}
 use lib.ListN.{length, replicate, length-replicate}
+use Rattle.point_darts.specs.Dart.{slots}
 use Rattle.paper.specs.Drawing.{Tables}
 use Rattle.paper.specs.Refusal.{sized, stated, cleared}
 
@@ -20,4 +21,4 @@ cleared_sized n (t ∷ ts) = ap₂ ◌&&◌ (ap (λ k. eqb k n) (length-replicat
 
 pub cleared_stated : (w h : ℕ) (t : Tables) (ws : List (List ℕ)) → stated w h t (cleared ws) ≡ stated w h t ws
 unfolding stated sized
-cleared_stated w h t ws = rw cleared_sized
+cleared_stated w h t ws = rw (cleared_sized (slots w h) ws)

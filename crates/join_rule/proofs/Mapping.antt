@@ -8,7 +8,6 @@ use Prim.Native.Nat.{ℕ, ◌≤◌}
 use native.Mathlib.Omega.{arith}
 use Rattle.laws.specs.Table.{table}
 use Rattle.laws.proofs.Chart.{Map, Chart}
-use Rattle.laws.proofs.Chart as Chart
 use Rattle.laws.proofs.Level.{level_chart}
 use Rattle.laws.proofs.Loop.{loops_passes}
 use Rattle.laws.proofs.Over.{links}

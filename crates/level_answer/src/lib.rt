@@ -1,5 +1,6 @@
 // What the level drawing answers to a size, a level and lengths.
 #![tactic(auto)]
+
 ghost use Rattle.std.specs.Prelude.{◌≡◌, []};
 ghost use Rattle.laws.specs.First.{first_failed};
 ghost use Rattle.paper.specs.Refusal.{level_tests};

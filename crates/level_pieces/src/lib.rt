@@ -1,3 +1,4 @@
 // Pieces of lines: the top of the piece of each point.
 #![tactic(auto)]
+
 pub mod points;

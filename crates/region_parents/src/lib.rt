@@ -1,3 +1,4 @@
 // Enclosure: each region's parent.
 #![tactic(auto)]
+
 pub mod parent;

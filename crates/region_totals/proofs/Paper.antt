@@ -224,7 +224,8 @@ module _ (w h : ℕ) (s : List ℕ) where
       where
         here : eqb (name_at w f w) 0 ≡ true
         here =
-            let p : name_at w f w ≡ named w h n (suc w) 1 = rw (zero-mul (w + 1), zero-add w) at (name_here w 0 (le_refl w) (omega arith)) in
+            let p : name_at w f w ≡ named w h n (suc w) 1 =
+            rw (zero-mul (w + 1), zero-add w) at (name_here w 0 (le_refl w) (omega arith)) in
             eq-eqb (name_at w f w) 0 (p ∙ named_east w h n (suc w) 1 (le_refl (suc w)))
 
     abbrev lines : ℕ → ℕ

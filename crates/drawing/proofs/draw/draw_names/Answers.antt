@@ -55,11 +55,10 @@ draw_parents-requires c =
     )
 
 pub returns : goal.returns
-returns c =
-    (
-      λ f. drawing_whole _ _ _ c.requires.0 _ _ _ _ _ _ f.round c.draw_lines.ensures c.keep_points.ensures
-          _ _ _ _ _ c.draw_curves.ensures c.draw_parents.ensures c.draw_totals.ensures,
-      c.clear_four.ensures
-          ∙ cleared_same _ _ _ _ _ _ _ _ c.draw_lines.auto.lines c.keep_points.auto.top
-          (c.keep_points.auto.kept ∙ c.draw_totals.auto.odd) refl,
-    )
+returns c = (
+  λ f. drawing_whole _ _ _ c.requires.0 _ _ _ _ _ _ f.round c.draw_lines.ensures c.keep_points.ensures
+      _ _ _ _ _ c.draw_curves.ensures c.draw_parents.ensures c.draw_totals.ensures,
+  c.clear_four.ensures
+      ∙ cleared_same _ _ _ _ _ _ _ _ c.draw_lines.auto.lines c.keep_points.auto.top
+      (c.keep_points.auto.kept ∙ c.draw_totals.auto.odd) refl,
+)

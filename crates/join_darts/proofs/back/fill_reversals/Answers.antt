@@ -1,4 +1,3 @@
-use Prim.Native.Nat.{◌-◌}
 use Rattle.point_darts.proofs.Fit.{point_fits}
 use Rattle.table_entries.proofs.Passed.{passed_none, passed_room, passed_more, passed_all}
 use Rattle.join_darts.proofs.back.fill_reversals.Goals as goal

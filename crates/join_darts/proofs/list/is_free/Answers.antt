@@ -1,4 +1,3 @@
-use Prim.Native.Nat.{◌-◌}
 use native.Mathlib.Omega.{arith}
 use Rattle.join_darts.proofs.Listing.{asked_none, asked_one}
 use Rattle.join_darts.proofs.list.is_free.Goals as goal

@@ -1,5 +1,4 @@
 use mathlib.Core.Path.{refl, sym, ◌∙◌}
-use Prim.Native.Nat.{◌-◌}
 use native.Mathlib.Omega.{arith}
 use Rattle.point_darts.specs.Dart.{mark}
 use Rattle.join_darts.proofs.Narrowing.{listed_all, narrowed_none, narrowed_rest, narrowed_more}

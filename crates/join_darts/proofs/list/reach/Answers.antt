@@ -1,4 +1,3 @@
-use Prim.Native.Nat.{◌-◌}
 use native.Mathlib.Omega.{arith}
 use Rattle.point_darts.specs.Dart.{mark}
 use Rattle.join_darts.proofs.Narrowing.{read_on, read_off, reached_more, reached_here}

@@ -1,5 +1,4 @@
 use mathlib.Core.Path.{refl}
-use Prim.Native.Nat.{◌-◌}
 use Rattle.table_entries.proofs.Half.{half_all}
 use Rattle.join_groups.proofs.group.take_one.Goals as goal
 

@@ -1,5 +1,4 @@
 use mathlib.Core.Path.{refl}
-use Prim.Native.Nat.{◌-◌}
 use Rattle.join_lower.proofs.Lowering.{side_more}
 use Rattle.table_entries.proofs.Half.{half_more, half_all}
 use Rattle.join_lower.proofs.side.lower_sides.Goals as goal

@@ -1,8 +1,6 @@
 use mathlib.Core.Path.{◌∙◌}
 use Rattle.point_darts.specs.Dart.{mark}
-use Prim.Native.Nat.{◌-◌}
 use native.Mathlib.Omega.{arith}
-use Rattle.join_shared.specs.Led.{led}
 use Rattle.join_shared.proofs.Leading.{unlisted_led, led_same}
 use Rattle.join_shared.proofs.Treating.{treated_none, treated_more, treated_all}
 use Rattle.join_shared.proofs.shared.lead.Goals as goal

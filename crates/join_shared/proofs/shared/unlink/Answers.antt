@@ -1,4 +1,3 @@
-use Prim.Native.Nat.{◌-◌}
 use native.Mathlib.Omega.{arith}
 use Rattle.point_darts.specs.Dart.{mark}
 use Rattle.join_shared.proofs.Leading.{unlisted_keeps, link_here}

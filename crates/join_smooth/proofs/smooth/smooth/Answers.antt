@@ -1,5 +1,5 @@
 use mathlib.Core.Path.{refl, ◌∙◌, ap}
-use Prim.Native.Nat.{◌-◌, ◌<◌}
+use Prim.Native.Nat.{◌<◌}
 use native.Mathlib.Omega.{arith}
 use Rattle.point_darts.specs.Dart.{slots}
 use Rattle.point_darts.proofs.Fit.{darts_fit}

@@ -1,5 +1,4 @@
 use mathlib.Core.Path.{ap, ◌∙◌}
-use mathlib.Core.Bool.{true}
 use Rattle.paper.specs.Joining.{at}
 use Rattle.table_entries.proofs.Entries.{at_in, on_below}
 use Rattle.level_curves.proofs.Linking.{after_on, after_below, after_point}

@@ -1,4 +1,3 @@
-use Prim.Native.Nat.{◌-◌}
 use native.Mathlib.Omega.{arith}
 use Rattle.point_darts.specs.Dart.{mark, slots, dart}
 use Rattle.level_curves.proofs.Linking.{linking_none, linking_all}

@@ -1,7 +1,6 @@
 use Rattle.table_entries.proofs.Entries.{at_entry}
 use Rattle.level_kept.proofs.Flags.{bend_entry}
 use mathlib.Core.Path.{sym, ◌∙◌, ap}
-use Prim.Native.Nat.{◌-◌}
 use Rattle.level_kept.specs.Keep.{large, kind_at, bends}
 use lib.Dec.{eqb}
 use mathlib.Core.Bool.{◌||◌}

@@ -88,8 +88,7 @@ raise-requires c = ready (at.raise-requires c).At-loop-i
 
 pub loop-i-preserved : goal.loop-i-preserved
 loop-i-preserved c =
-    let b = c.loop-i-test.true in
-    (
+    let b = c.loop-i-test.true in (
       raised (at.loop-i-preserved c).At-loop-i _ c.raise.ensures,
       own (at.loop-i-preserved c).After-larges _ _ _ c.loop-i.invariant.0 (omega arith) b,
       b,

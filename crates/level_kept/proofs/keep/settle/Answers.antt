@@ -2,7 +2,6 @@ use native.Mathlib.Nat.{le_refl}
 use Rattle.table_entries.proofs.Entries.{at_in}
 use Rattle.level_kept.proofs.Flags.{settle_entry}
 use mathlib.Core.Path.{◌∙◌}
-use Prim.Native.Nat.{◌-◌}
 use native.Mathlib.Omega.{arith}
 use Rattle.table_entries.proofs.Filled.{filled_more, filled_all}
 use Rattle.level_kept.proofs.keep.settle.Goals as goal

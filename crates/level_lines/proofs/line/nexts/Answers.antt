@@ -14,7 +14,6 @@ use Rattle.level_lines.proofs.line.nexts.Goals as goal
 
 -- What is known of the size and the tables before the loops.
 module _ (a : After-points-n) where
-
   rows_in : a.args.width + 1 + (a.args.width + 1) ≤ a.points-n.result
   rows_in = omega (arith, a.points-n.ensures, two_rows _ _ a.requires.0)
 
@@ -39,7 +38,6 @@ module _ (a : After-points-n) where
 
 -- The point at hand in the first row, in the rows between, and in the last.
 module _ (l : In-loop-p) where
-
   south-in : l.loop-p.p + (l.args.width + 1) < l.points-n.result
   south-in = omega (arith, rows_in (at.In-loop-p l).After-points-n, l.loop-p-test.true)
 
@@ -53,7 +51,6 @@ module _ (l : In-loop-p) where
   near = far-fits (at.In-loop-p l).After-points-n _ here
 
 module _ (l : In-loop-p-2) where
-
   south-in2 : l.loop-p-2.p + (l.args.width + 1) < l.points-n.result
   south-in2 = omega (arith, l.loop-p-2-test.true)
 
@@ -67,7 +64,6 @@ module _ (l : In-loop-p-2) where
   near2 = far-fits (at.In-loop-p-2 l).After-points-n _ here2
 
 module _ (l : In-loop-p-3) where
-
   inside3 : l.loop-p-3.p + 1 < l.points-n.result
   inside3 = omega (arith, l.loop-p-3-test.true)
 
@@ -82,7 +78,6 @@ module _ (l : In-loop-p-3) where
 
 -- The last point.
 module _ (e : After-loop-p-3) where
-
   last : e.loop-p-3.p < e.points-n.result
   last = omega (arith, e.loop-p-3.invariant.2)
 
@@ -91,84 +86,110 @@ overflow_add-row c = omega (arith, rows_in c)
 
 pub next_at-requires : goal.next_at-requires
 next_at-requires c =
-    let b = point-0 (at.next_at-requires c).After-points-n in
-    (point-in (at.next_at-requires c).After-points-n _ b, fits (at.next_at-requires c).After-points-n _ b, passed_room _ _ _ _ c.points-n.ensures _ _ _ (none (at.next_at-requires c).After-points-n) b)
+    let a = (at.next_at-requires c).After-points-n in
+    let b = point-0 a in
+    (point-in a _ b, fits a _ b, passed_room _ _ _ _ c.points-n.ensures _ _ _ (none a) b)
 
 pub loop-p-init : goal.loop-p-init
 loop-p-init c =
-    (
-      passed_so_far _ _ _ _ _ _
-          (passed_more _ _ _ _ c.points-n.ensures _ _ _ (none (at.loop-p-init c).After-points-n) (point-0 (at.loop-p-init c).After-points-n) _ c.next_at.ensures),
-      omega arith,
-      omega arith,
-    )
+    let a = (at.loop-p-init c).After-points-n in
+    let r = passed_more _ _ _ _ c.points-n.ensures _ _ _ (none a) (point-0 a) _ c.next_at.ensures in
+    (passed_so_far _ _ _ _ _ _ r, omega arith, omega arith)
 
 pub besides-far-requires : goal.besides-far-requires
 besides-far-requires c = omega (arith, near c)
 
 pub overflow_add-p : goal.overflow_add-p
-overflow_add-p c = omega (arith, near (at.overflow_add-p c).In-loop-p)
+overflow_add-p c =
+    let l = (at.overflow_add-p c).In-loop-p in
+    omega (arith, near l)
 
 pub bounds-masks-p : goal.bounds-masks-p
-bounds-masks-p c = point-in (at.bounds-masks-p c).After-points-n _ (omega (arith, south-in (at.bounds-masks-p c).In-loop-p))
+bounds-masks-p c =
+    let a = (at.bounds-masks-p c).After-points-n in
+    let l = (at.bounds-masks-p c).In-loop-p in
+    point-in a _ (omega (arith, south-in l))
 
 pub bounds-masks-0 : goal.bounds-masks-0
-bounds-masks-0 c = point-in (at.bounds-masks-0 c).After-points-n _ (omega (arith, inside (at.bounds-masks-0 c).In-loop-p))
+bounds-masks-0 c =
+    let a = (at.bounds-masks-0 c).After-points-n in
+    let l = (at.bounds-masks-0 c).In-loop-p in
+    point-in a _ (omega (arith, inside l))
 
 pub lines_beside-lines-requires : goal.lines_beside-lines-requires
-lines_beside-lines-requires c = (c.loop-p.invariant.1, point-in (at.lines_beside-lines-requires c).After-points-n _ (inside (at.lines_beside-lines-requires c).In-loop-p))
+lines_beside-lines-requires c =
+    let a = (at.lines_beside-lines-requires c).After-points-n in
+    let l = (at.lines_beside-lines-requires c).In-loop-p in
+    (c.loop-p.invariant.1, point-in a _ (inside l))
 
 pub follow_four-requires : goal.follow_four-requires
 follow_four-requires c =
-    beside_fit _ _ _ _ _ _ (fits (at.follow_four-requires c).After-points-n _ (here (at.follow_four-requires c).In-loop-p)) c.besides-far.ensures
+    let a = (at.follow_four-requires c).After-points-n in
+    let l = (at.follow_four-requires c).In-loop-p in
+    beside_fit _ _ _ _ _ _ (fits a _ (here l)) c.besides-far.ensures
 
 pub put_present-requires : goal.put_present-requires
 put_present-requires c =
-    (point-in (at.put_present-requires c).After-points-n _ (here (at.put_present-requires c).In-loop-p), passed_room _ _ _ _ c.points-n.ensures _ _ _ c.loop-p.invariant.0 (here (at.put_present-requires c).In-loop-p))
+    let a = (at.put_present-requires c).After-points-n in
+    let l = (at.put_present-requires c).In-loop-p in
+    (point-in a _ (here l), passed_room _ _ _ _ c.points-n.ensures _ _ _ c.loop-p.invariant.0 (here l))
 
 pub overflow_add-p-in-loop-p : goal.overflow_add-p-in-loop-p
-overflow_add-p-in-loop-p c = omega (arith, near (at.overflow_add-p-in-loop-p c).In-loop-p)
+overflow_add-p-in-loop-p c =
+    let l = (at.overflow_add-p-in-loop-p c).In-loop-p in
+    omega (arith, near l)
 
 pub loop-p-smaller : goal.loop-p-smaller
-loop-p-smaller c = omega (arith, inside (at.loop-p-smaller c).In-loop-p)
+loop-p-smaller c =
+    let l = (at.loop-p-smaller c).In-loop-p in
+    omega (arith, inside l)
 
 pub loop-p-preserved : goal.loop-p-preserved
 loop-p-preserved c =
+    let a = (at.loop-p-preserved c).After-points-n in
+    let l = (at.loop-p-preserved c).In-loop-p in
     let m = c.args.masks.now in
     let (r, i, k) = c.loop-p.invariant in (
-      passed_more _ _ _ _ c.points-n.ensures _ _ _ r (here (at.loop-p-preserved c).In-loop-p) _
+      passed_more _ _ _ _ c.points-n.ensures _ _ _ r (here l) _
           (next_beside _ _ _ _ c.besides-far.ensures c.follow_four.ensures
           c.put_present.ensures c.lines_beside-lines.ensures
-          (lines_in m _ _ (omega arith) (point-in (at.loop-p-preserved c).After-points-n _ (south-in (at.loop-p-preserved c).In-loop-p)))
-          (lines_in m _ _ (omega arith) (point-in (at.loop-p-preserved c).After-points-n _ (point-0 (at.loop-p-preserved c).After-points-n)))),
+          (lines_in m _ _ (omega arith) (point-in a _ (south-in l)))
+          (lines_in m _ _ (omega arith) (point-in a _ (point-0 a)))),
       omega arith,
       omega (arith, c.loop-p-test.true),
     )
 
 pub loop-p-2-init : goal.loop-p-2-init
 loop-p-2-init c =
+    let a = (at.loop-p-2-init c).After-points-n in
     let (r, i, k) = c.loop-p.invariant in
-    (passed_so_far _ _ _ _ _ _ r, c.loop-p-test.false, omega (arith, rows_in (at.loop-p-2-init c).After-points-n))
+    (passed_so_far _ _ _ _ _ _ r, c.loop-p-test.false, omega (arith, rows_in a))
 
 pub follow_four-requires-in-loop-p-2 : goal.follow_four-requires-in-loop-p-2
 follow_four-requires-in-loop-p-2 c =
-    beside_fit _ _ _ _ _ _ (fits (at.follow_four-requires-in-loop-p-2 c).After-points-n _ (here2 (at.follow_four-requires-in-loop-p-2 c).In-loop-p-2)) c.besides-far-in-loop-p-2.ensures
+    let a = (at.follow_four-requires-in-loop-p-2 c).After-points-n in
+    let l = (at.follow_four-requires-in-loop-p-2 c).In-loop-p-2 in
+    beside_fit _ _ _ _ _ _ (fits a _ (here2 l)) c.besides-far-in-loop-p-2.ensures
 
 pub put_present-requires-in-loop-p-2 : goal.put_present-requires-in-loop-p-2
 put_present-requires-in-loop-p-2 c =
-    (point-in (at.put_present-requires-in-loop-p-2 c).After-points-n _ (here2 (at.put_present-requires-in-loop-p-2 c).In-loop-p-2), passed_room _ _ _ _ c.points-n.ensures _ _ _ c.loop-p-2.invariant.0 (here2 (at.put_present-requires-in-loop-p-2 c).In-loop-p-2))
+    let a = (at.put_present-requires-in-loop-p-2 c).After-points-n in
+    let l = (at.put_present-requires-in-loop-p-2 c).In-loop-p-2 in
+    (point-in a _ (here2 l), passed_room _ _ _ _ c.points-n.ensures _ _ _ c.loop-p-2.invariant.0 (here2 l))
 
 pub loop-p-2-preserved : goal.loop-p-2-preserved
 loop-p-2-preserved c =
+    let a = (at.loop-p-2-preserved c).After-points-n in
+    let l = (at.loop-p-2-preserved c).In-loop-p-2 in
     let m = c.args.masks.now in
     let (r, i, k) = c.loop-p-2.invariant in (
-      passed_more _ _ _ _ c.points-n.ensures _ _ _ r (here2 (at.loop-p-2-preserved c).In-loop-p-2) _
+      passed_more _ _ _ _ c.points-n.ensures _ _ _ r (here2 l) _
           (next_beside _ _ _ _ c.besides-far-in-loop-p-2.ensures c.follow_four-in-loop-p-2.ensures
           c.put_present-in-loop-p-2.ensures c.lines_beside-lines-in-loop-p-2.ensures
-          (lines_in m _ _ (omega arith) (point-in (at.loop-p-2-preserved c).After-points-n _ (south-in2 (at.loop-p-2-preserved c).In-loop-p-2)))
-          (lines_in m _ _ (omega arith) (point-in (at.loop-p-2-preserved c).After-points-n _ (omega (arith, here2 (at.loop-p-2-preserved c).In-loop-p-2))))),
+          (lines_in m _ _ (omega arith) (point-in a _ (south-in2 l)))
+          (lines_in m _ _ (omega arith) (point-in a _ (omega (arith, here2 l))))),
       omega arith,
-      omega (arith, south-in2 (at.loop-p-2-preserved c).In-loop-p-2),
+      omega (arith, south-in2 l),
     )
 
 pub besides-far-requires-in-loop-p-3 : goal.besides-far-requires-in-loop-p-3
@@ -176,33 +197,42 @@ besides-far-requires-in-loop-p-3 c = omega (arith, near3 c)
 
 pub follow_four-requires-in-loop-p-3 : goal.follow_four-requires-in-loop-p-3
 follow_four-requires-in-loop-p-3 c =
-    beside_fit _ _ _ _ _ _ (fits (at.follow_four-requires-in-loop-p-3 c).After-points-n _ (here3 (at.follow_four-requires-in-loop-p-3 c).In-loop-p-3)) c.besides-far-in-loop-p-3.ensures
+    let a = (at.follow_four-requires-in-loop-p-3 c).After-points-n in
+    let l = (at.follow_four-requires-in-loop-p-3 c).In-loop-p-3 in
+    beside_fit _ _ _ _ _ _ (fits a _ (here3 l)) c.besides-far-in-loop-p-3.ensures
 
 pub put_present-requires-in-loop-p-3 : goal.put_present-requires-in-loop-p-3
 put_present-requires-in-loop-p-3 c =
-    (point-in (at.put_present-requires-in-loop-p-3 c).After-points-n _ (here3 (at.put_present-requires-in-loop-p-3 c).In-loop-p-3), passed_room _ _ _ _ c.points-n.ensures _ _ _ c.loop-p-3.invariant.0 (here3 (at.put_present-requires-in-loop-p-3 c).In-loop-p-3))
+    let a = (at.put_present-requires-in-loop-p-3 c).After-points-n in
+    let l = (at.put_present-requires-in-loop-p-3 c).In-loop-p-3 in
+    (point-in a _ (here3 l), passed_room _ _ _ _ c.points-n.ensures _ _ _ c.loop-p-3.invariant.0 (here3 l))
 
 pub loop-p-3-preserved : goal.loop-p-3-preserved
 unfolding mark
 loop-p-3-preserved c =
+    let a = (at.loop-p-3-preserved c).After-points-n in
+    let l = (at.loop-p-3-preserved c).In-loop-p-3 in
     let m = c.args.masks.now in
     let (r, i, k) = c.loop-p-3.invariant in (
-      passed_more _ _ _ _ c.points-n.ensures _ _ _ r (here3 (at.loop-p-3-preserved c).In-loop-p-3) _
+      passed_more _ _ _ _ c.points-n.ensures _ _ _ r (here3 l) _
           (next_beside _ _ _ _ c.besides-far-in-loop-p-3.ensures c.follow_four-in-loop-p-3.ensures
           c.put_present-in-loop-p-3.ensures c.lines_beside-lines-in-loop-p-3.ensures
           (at_out m _ (omega (arith, c.requires.1, c.points-n.ensures)))
-          (lines_in m _ _ (omega arith) (point-in (at.loop-p-3-preserved c).After-points-n _ (omega (arith, here3 (at.loop-p-3-preserved c).In-loop-p-3))))),
+          (lines_in m _ _ (omega arith) (point-in a _ (omega (arith, here3 l))))),
       omega arith,
-      omega (arith, inside3 (at.loop-p-3-preserved c).In-loop-p-3),
+      omega (arith, inside3 l),
     )
 
 pub next_at-requires-2 : goal.next_at-requires-2
 next_at-requires-2 c =
-    (point-in (at.next_at-requires-2 c).After-points-n _ (last (at.next_at-requires-2 c).After-loop-p-3), fits (at.next_at-requires-2 c).After-points-n _ (last (at.next_at-requires-2 c).After-loop-p-3), passed_room _ _ _ _ c.points-n.ensures _ _ _ c.loop-p-3.invariant.0 (last (at.next_at-requires-2 c).After-loop-p-3))
+    let a = (at.next_at-requires-2 c).After-points-n in
+    let e = (at.next_at-requires-2 c).After-loop-p-3 in
+    (point-in a _ (last e), fits a _ (last e), passed_room _ _ _ _ c.points-n.ensures _ _ _ c.loop-p-3.invariant.0 (last e))
 
 pub returns : goal.returns
 unfolding nexts marked entry_of
 returns c =
+    let e = (at.returns c).After-loop-p-3 in
     let r = c.loop-p-3.invariant.0 in
-    let u = passed_more _ _ _ _ c.points-n.ensures _ _ _ r (last (at.returns c).After-loop-p-3) _ c.next_at-2.ensures in
+    let u = passed_more _ _ _ _ c.points-n.ensures _ _ _ r (last e) _ c.next_at-2.ensures in
     passed_all _ _ _ _ c.points-n.ensures _ _ _ u (omega (arith, c.loop-p-3-test.false))

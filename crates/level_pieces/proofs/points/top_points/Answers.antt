@@ -13,7 +13,6 @@ use Rattle.level_pieces.proofs.points.top_points.Goals as goal
 
 -- What is known of the size and the tables before the loops.
 module _ (a : After-points-n) where
-
   row_in : a.args.width + 1 ≤ a.points-n.result
   row_in = omega (arith, a.points-n.ensures, row_fit a.args.width a.args.height)
 

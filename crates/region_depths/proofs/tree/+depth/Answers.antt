@@ -4,8 +4,7 @@ use Rattle.region_depths.proofs.tree.+depth.Goals as goal
 
 pub depth-requires : goal.depth-requires
 depth-requires t c =
-    let q = c.requires in
-    (
+    let q = c.requires in (
       omega (arith, c.if-up-name.true, c.decreases),
       (q.0, omega (arith, q.1), climb_known _ q.0 _ q.1 q.2 c.if-up-name.true),
     )

@@ -20,8 +20,7 @@ overflow_add-i c =
 pub loop-i-preserved-then-column-width : goal.loop-i-preserved-then-column-width
 loop-i-preserved-then-column-width c =
     let g = c.grow in
-    let f = c.loop-i.invariant in
-    (
+    let f = c.loop-i.invariant in (
       reached_more _ _ _ _ _ f.0 _ g.auto.first (g.ensures (growing _ _ _ _ _ f.0)),
       column_back _ (within_limits _ _ c.requires.0).width_some _ _ f.1 c.if-column-width.true,
     )
@@ -29,8 +28,7 @@ loop-i-preserved-then-column-width c =
 pub loop-i-preserved : goal.loop-i-preserved
 loop-i-preserved c =
     let g = c.grow in
-    let f = c.loop-i.invariant in
-    (
+    let f = c.loop-i.invariant in (
       reached_more _ _ _ _ _ f.0 _ g.auto.first (g.ensures (growing _ _ _ _ _ f.0)),
       column_on _ (within_limits _ _ c.requires.0).width_some _ _ f.1 c.if-column-width.false,
     )

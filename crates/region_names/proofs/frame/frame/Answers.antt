@@ -9,7 +9,6 @@ use Rattle.region_names.proofs.frame.frame.Goals as goal
 
 -- The row at hand: its cells are on the sheet, its names in the table.
 module _ (l : In-loop-y) where
-
   cells_in : l.loop-y.from + l.args.width ≤ l.args.width * l.args.height
   cells_in = framing_cells _ _ _ _ _ _ _ l.loop-y.invariant l.loop-y-test.true
 

@@ -11,7 +11,6 @@ use Rattle.region_parents.proofs.parent.find_parents.Goals as goal
 
 -- The row at hand: its corners are points, its names in the table.
 module _ (l : In-loop-y) where
-
   corners : l.loop-y.corner + l.args.width < points l.args.width l.args.height
   corners = corners_in _ _ _ _ _ _ _ _ _ l.loop-y.invariant l.loop-y-test.true
 

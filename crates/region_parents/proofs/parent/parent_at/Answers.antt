@@ -15,7 +15,6 @@ first-in f = omega (arith, f.first_slot.ensures, f.requires.0)
 
 -- And so is the slot of the dart that leads back from the top.
 module _ (f : After-first_slot-2) where
-
   back_in : f.first_slot-2.result + 2 < length f.args.side.now
   unfolding dart
   back_in = omega (arith, f.first_slot-2.ensures, f.requires.3.up f.args.corner, f.requires.0)

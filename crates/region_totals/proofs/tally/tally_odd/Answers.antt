@@ -18,8 +18,7 @@ unfolding mark name_at
 add-requires-2 c =
     let q = c.requires in
     let t = q.5.tallied in
-    let v = q.0 (c.args.p + (c.args.width + 2)) in
-    (
+    let v = q.0 (c.args.p + (c.args.width + 2)) in (
       omega (arith, v, q.3, c.add.auto.table, t.long_odd),
       rw c.add.ensures
           (omega (
