@@ -1,5 +1,6 @@
 // What a check of a drawing answers to a size and lengths, and to whether the tables are a drawing.
 #![tactic(auto)]
+
 ghost use Rattle.std.specs.Prelude.{◌≡◌, [], ◌∷◌};
 ghost use Rattle.laws.specs.First.{first_failed};
 ghost use Rattle.paper.specs.Refusal.{size_tests};

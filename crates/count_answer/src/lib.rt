@@ -1,5 +1,6 @@
 // What a count answers after a check of the drawing.
 #![tactic(auto)]
+
 ghost use Rattle.std.specs.Prelude.{◌≡◌};
 ghost use Rattle.region_depths.specs.Tree.{known};
 ghost use Rattle.paper.specs.Enclosure.{depth, holes};

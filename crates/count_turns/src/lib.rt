@@ -1,3 +1,4 @@
 // The turns of the curves of a drawing.
 #![tactic(auto)]
+
 pub mod turns;

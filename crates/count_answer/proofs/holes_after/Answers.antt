@@ -13,7 +13,6 @@ use Rattle.count_answer.proofs.holes_after.Goals as goal
 
 -- The answer is done and the name is known.
 module _ (c : Else-not-is_known) where
-
   done : number_of c.args.answer ≡ 0
   done = sym c.number.ensures ∙ c.if-number-ne0.false
 

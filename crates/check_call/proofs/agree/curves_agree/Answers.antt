@@ -46,15 +46,14 @@ slice_bounds-draw_parents-end-2 c =
     (names_part _ _))
 
 pub draw_parents-requires : goal.draw_parents-requires
-draw_parents-requires c =
-    (
-      c.requires.0,
-      c.keep_points.auto.top ∙ c.requires.2,
-      tops_rising _ _ _ _ _ _ c.keep_points.ensures,
-      front_long _ _ c.keep_points.new.kept (c.keep_points.auto.kept ∙ c.requires.4)
-          (names_part _ _),
-      c.requires.1,
-    )
+draw_parents-requires c = (
+  c.requires.0,
+  c.keep_points.auto.top ∙ c.requires.2,
+  tops_rising _ _ _ _ _ _ c.keep_points.ensures,
+  front_long _ _ c.keep_points.new.kept (c.keep_points.auto.kept ∙ c.requires.4)
+      (names_part _ _),
+  c.requires.1,
+)
 
 pub returns-then-not-both_same : goal.returns-then-not-both_same
 returns-then-not-both_same c =

@@ -33,13 +33,12 @@ slice_bounds-name_cells-end-2 c =
     sym (back_long _ _ c.args.c.now c.requires.4 (cells_part _ _) c.recover.new.labels c.recover.auto.labels)
 
 pub name_cells-requires : goal.name_cells-requires
-name_cells-requires c =
-    (
-      c.requires.0,
-      back_long _ _ c.args.c.now c.requires.4 (cells_part _ _) c.recover.new.labels c.recover.auto.labels,
-      c.requires.3,
-      c.requires.2,
-    )
+name_cells-requires c = (
+  c.requires.0,
+  back_long _ _ c.args.c.now c.requires.4 (cells_part _ _) c.recover.new.labels c.recover.auto.labels,
+  c.requires.3,
+  c.requires.2,
+)
 
 pub returns : goal.returns
 returns c =

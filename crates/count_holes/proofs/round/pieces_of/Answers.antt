@@ -25,7 +25,7 @@ overflow_add-count c =
     let z = c.requires.0 in
     let b = rounded_le a.side.now a.tops.now a.name c.loop-p.p in
     elim c.if-round-name.branch [
-      then-round-name w ↦ omega (arith, b, z.four, z.fits)
+      | then-round-name w ↦ omega (arith, b, z.four, z.fits)
       | else-round-name w ↦ omega (arith, b, z.four, z.fits)
     ]
 
@@ -37,7 +37,7 @@ pub loop-p-preserved : goal.loop-p-preserved
 loop-p-preserved c =
     let n = c.loop-p.invariant.0 in (
       elim c.if-round-name.branch [
-        then-round-name w ↦ omega (arith, rounded_more _ _ _ _ _ _ n c.round_at-round.ensures w.if-round-name.true)
+        | then-round-name w ↦ omega (arith, rounded_more _ _ _ _ _ _ n c.round_at-round.ensures w.if-round-name.true)
         | else-round-name w ↦ omega (arith, rounded_same _ _ _ _ _ _ n c.round_at-round.ensures w.if-round-name.false)
       ],
       omega arith,

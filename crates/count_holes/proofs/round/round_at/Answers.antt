@@ -9,7 +9,6 @@ use Rattle.count_holes.proofs.round.round_at.Goals as goal
 
 -- The slot of the dart that leads back is in the table.
 module _ (f : After-first_slot) where
-
   back_in : f.first_slot.result + 2 < length f.args.side.now
   unfolding dart
   back_in = omega (arith, f.first_slot.ensures, f.requires.0)

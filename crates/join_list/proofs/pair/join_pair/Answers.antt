@@ -17,21 +17,19 @@ asked-answer-requires c =
     λ z. (q.size, (stated_slots _ _ _ _ q.sizes).1.0)
 
 pub returns-then-number-ne0 : goal.returns-then-number-ne0
-returns-then-number-ne0 c =
-    (
-      pair_number _ _ _ _ c.requires _ _ _ c.asked-answer.ensures,
-      λ z. absurd (c.if-number-ne0.true (c.number.ensures ∙ z)),
-      λ z. (refl, refl, refl),
-    )
+returns-then-number-ne0 c = (
+  pair_number _ _ _ _ c.requires _ _ _ c.asked-answer.ensures,
+  λ z. absurd (c.if-number-ne0.true (c.number.ensures ∙ z)),
+  λ z. (refl, refl, refl),
+)
 
 pub unite-requires : goal.unite-requires
 unite-requires c =
     pair_ready _ _ _ _ c.requires _ _ _ c.asked-answer.ensures (sym c.number.ensures ∙ c.if-number-ne0.false)
 
 pub returns : goal.returns
-returns c =
-    (
-      done_none ∙ sym (passed (at.returns c).After-unite) ∙ pair_number _ _ _ _ c.requires _ _ _ c.asked-answer.ensures,
-      λ z. c.unite.ensures,
-      λ z. absurd (z done_none),
-    )
+returns c = (
+  done_none ∙ sym (passed (at.returns c).After-unite) ∙ pair_number _ _ _ _ c.requires _ _ _ c.asked-answer.ensures,
+  λ z. c.unite.ensures,
+  λ z. absurd (z done_none),
+)
