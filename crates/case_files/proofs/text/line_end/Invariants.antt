@@ -1,5 +1,4 @@
-use Prim.Native.Nat.{◌-◌, ◌≤◌}
-use lib.ListN.{length}
+use Rattle.std.specs.Prelude.{◌-◌, ◌≤◌, length}
 use Rattle.case_files.proofs.text.line_end.Given as goal
 
 abbrev pub invariant-loop-i : goal.invariant-loop-i

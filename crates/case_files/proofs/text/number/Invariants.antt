@@ -1,5 +1,4 @@
-use Prim.Native.Nat.{◌-◌, ◌≤◌, ◌<◌, max}
-use lib.ListN.{length}
+use Rattle.std.specs.Prelude.{◌-◌, ◌≤◌, ◌<◌, max, length}
 use Rattle.case_files.proofs.text.number.Given as goal
 
 abbrev pub invariant-loop-i : goal.invariant-loop-i

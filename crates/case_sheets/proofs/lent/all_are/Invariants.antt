@@ -1,5 +1,4 @@
-use Prim.Native.Nat.{◌-◌}
-use lib.ListN.{length}
+use Rattle.std.specs.Prelude.{◌-◌, length}
 use Rattle.case_sheets.proofs.lent.all_are.Given as goal
 
 abbrev pub invariant-loop-i : goal.invariant-loop-i

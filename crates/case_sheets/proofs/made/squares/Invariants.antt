@@ -1,6 +1,4 @@
-use mathlib.Core.Path.{◌≡◌}
-use Prim.Native.Nat.{◌-◌}
-use lib.ListN.{length}
+use Rattle.std.specs.Prelude.{◌≡◌, ◌-◌, length}
 use Rattle.case_sheets.proofs.made.squares.Given as goal
 
 abbrev pub invariant-loop-i : goal.invariant-loop-i

@@ -1,6 +1,4 @@
-use mathlib.Core.Path.{◌≡◌}
-use Prim.Native.Nat.{◌-◌, ◌≤◌}
-use lib.ListN.{length}
+use Rattle.std.specs.Prelude.{◌≡◌, ◌-◌, ◌≤◌, length}
 use Rattle.laws.specs.Table.{count}
 use Rattle.paper.specs.Joining.{on}
 use Rattle.listing.proofs.lines.entries.Given as goal
