@@ -167,11 +167,11 @@ pub(crate) fn left_by<W: Write>(
     let parent = front(&tables.parent);
     let cells = front(&tables.cells);
     let borders = front(&tables.borders);
-    Left {
+    Ok(Left {
         replies,
         regions,
         parent,
         cells,
         borders,
-    }
+    })
 }

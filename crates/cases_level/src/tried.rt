@@ -40,8 +40,8 @@ pub struct Answered {
 
 // The lengths that a case gives.
 fn lengths_of(lengths: &[u16]) -> Lengths
-    ensures { (result.next ≤ room) × (result.other ≤ room) × (result.side ≤ room) × (result.a ≤ room) × (result.b ≤ room) × (result.c ≤ room) ×
-        (result.d ≤ room) }
+    ensures { (result.next ≤ room) × (result.other ≤ room) × (result.side ≤ room) × (result.a ≤ room) ×
+        (result.b ≤ room) × (result.c ≤ room) × (result.d ≤ room) }
 {
     Lengths {
         next: lent::length(lengths, 0),
