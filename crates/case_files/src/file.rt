@@ -49,7 +49,10 @@ fn read_argument<R: Files + Eprint>(
 }
 
 // Reads the files that the program's arguments name, one after another, and answers how many bytes they have.
-pub fn read_all<R: Files + Env + Eprint + AllocGlobal>(rt: &R, bytes: &mut [u8]) -> io::Result<usize>
+pub fn read_all<R: Files + Env + Eprint + AllocGlobal>(
+    rt: &R,
+    bytes: &mut [u8],
+) -> io::Result<usize>
     ensures { IfOk result (λ n. IsPrefixLen n bytes.new) }
 {
     let mut end = 0;

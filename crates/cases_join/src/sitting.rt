@@ -59,6 +59,7 @@ fn lowered(name: u16, sides: Sides) -> u16 {
     name
 }
 
+// The smaller of the names on the two sides.
 fn least(sides: Sides) -> u16 {
     if sides.right < sides.left {
         return sides.right;
