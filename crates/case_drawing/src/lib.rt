@@ -1,5 +1,6 @@
 // The call of drawing, for the programs that run cases.
 #![tactic(auto)]
+
 ghost use Rattle.case_sheets.specs.Room.{Fits};
 
 use case_sheets::lengths::{Lengths, Size};

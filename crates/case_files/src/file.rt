@@ -1,5 +1,10 @@
-ghost use Rattle.std.specs.Prelude.{◌≡◌, ◌≤◌, length};
+ghost use Rattle.std.specs.Prelude.{◌≡◌, ◌≤◌, length, IfOk};
 ghost use Rattle.io.specs.Counts.{IsPrefixLen};
+
+use std::env::Env;
+use std::io::{Eprint, Read};
+use std::rt::Files;
+use std::{env, fs, io};
 
 // Room for the files of a program: 524,288 bytes.
 pub fn room() -> [u8; 524288]
@@ -9,41 +14,50 @@ pub fn room() -> [u8; 524288]
 }
 
 // Reads an open file into the bytes from a place on, as many as there is room for, and answers the place after them.
-fn read_on(file: i32, bytes: &mut [u8], from: usize) -> usize
+fn read_on<R: Read>(file: &mut R, bytes: &mut [u8], from: usize) -> io::Result<usize>
     requires { from ≤ length bytes.old }
-    ensures { result ≤ length bytes.new }
+    ensures { IfOk result (λ end. end ≤ length bytes.new) }
 {
-    let n = io::read_full(file, &mut bytes[from..]);
-    from + n
+    let mut end = from;
+    while end < bytes.len() {
+        let n = file.read(&mut bytes[end..])?;
+        if n == 0 {
+            return Ok(end);
+        }
+        end += n;
+    }
+    Ok(end)
 }
 
-// Reads the file that an argument names.
-fn read_argument(i: usize, bytes: &mut [u8], from: usize) -> usize
+// Reads the file that an argument names. One that cannot be opened is named on standard error, and left out.
+fn read_argument<R: Files + Eprint>(
+    rt: &R,
+    name: &str,
+    bytes: &mut [u8],
+    from: usize,
+) -> io::Result<usize>
     requires { from ≤ length bytes.old }
-    ensures { result ≤ length bytes.new }
+    ensures { IfOk result (λ end. end ≤ length bytes.new) }
 {
-    let mut name = [0u8; 256];
-    let n = os::arg(i, &mut name);
-    let file = os::open_read(&name[..n]);
-    if file < 0 {
-        os::fail(&name[..n]);
-        return from;
+    match fs::open(rt, name) {
+        Ok(mut file) => read_on(&mut file, bytes, from),
+        Err(error) => {
+            eprintln!(rt; "{name}: {error}")?;
+            Ok(from)
+        }
     }
-    let end = read_on(file, bytes, from);
-    libc::close(file);
-    end
 }
 
 // Reads the files that the program's arguments name, one after another, and answers how many bytes they have.
-pub fn read_all(bytes: &mut [u8]) -> usize
-    ensures { IsPrefixLen result bytes.new }
+pub fn read_all<R: Files + Env + Eprint + AllocGlobal>(
+    rt: &R,
+    bytes: &mut [u8],
+) -> io::Result<usize>
+    ensures { IfOk result (λ n. IsPrefixLen n bytes.new) }
 {
-    let count = os::arg_count();
     let mut end = 0;
-    let mut i = 1;
-    while i < count {
-        end = read_argument(i, bytes, end);
-        i += 1;
+    for name in env::args(rt)?.skip(1) {
+        end = read_argument(rt, name.as_str(), bytes, end)?;
     }
-    end
+    Ok(end)
 }

@@ -39,6 +39,7 @@ pub fn names(width: u16, height: u16) -> u16 {
     limited(cells(width, height) + 1)
 }
 
+// A count, or 65535 where it is more.
 fn limited(count: usize) -> u16 {
     if count < 65535 {
         return count as u16;

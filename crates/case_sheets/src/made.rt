@@ -22,6 +22,7 @@ fn after(label: u16) -> u16 {
     0
 }
 
+// The smaller of two numbers.
 fn least(a: usize, b: usize) -> usize {
     if a < b { a } else { b }
 }

@@ -1,81 +1,84 @@
 use case_sheets::lent;
-use libc::STDOUT_FILENO;
+use std::io;
+use std::io::Write;
 
 // Writes bytes as they are.
-pub fn text(text: &[u8]) {
-    io::write_all(STDOUT_FILENO, text);
+pub fn text<W: Write>(out: &mut W, text: &[u8]) -> io::Result<()> {
+    out.write_all(text)
 }
 
-pub fn line_end() {
-    text(b"\n");
+// Ends a line.
+pub fn line_end<W: Write>(out: &mut W) -> io::Result<()> {
+    text(out, b"\n")
 }
 
 // Writes a number, with a blank before it.
-pub fn number(value: u64) {
-    text(b" ");
-    io::print_decimal(STDOUT_FILENO, value);
+pub fn number<W: Write>(out: &mut W, value: u64) -> io::Result<()> {
+    write!(out, " {value}")
 }
 
 // Writes a label, a dart, a name or a refusal's number.
-pub fn label(value: u16) {
-    number(value as u64);
+pub fn label<W: Write>(out: &mut W, value: u16) -> io::Result<()> {
+    number(out, value as u64)
 }
 
-fn byte(value: u8) {
-    number(value as u64);
+// Writes a byte as a number.
+fn byte<W: Write>(out: &mut W, value: u8) -> io::Result<()> {
+    number(out, value as u64)
 }
 
 // Writes labels, each with a blank before it.
-pub fn labels(values: &[u16]) {
+pub fn labels<W: Write>(out: &mut W, values: &[u16]) -> io::Result<()> {
     let mut i = 0;
     while i < values.len() {
-        label(values[i]);
+        label(out, values[i])?;
         i += 1;
     }
+    Ok(())
 }
 
 // Writes bytes as numbers, each with a blank before it.
-pub fn bytes(values: &[u8]) {
+pub fn bytes<W: Write>(out: &mut W, values: &[u8]) -> io::Result<()> {
     let mut i = 0;
     while i < values.len() {
-        byte(values[i]);
+        byte(out, values[i])?;
         i += 1;
     }
+    Ok(())
 }
 
 // Writes a table, in full or by its sum, after a semicolon.
-pub fn table(table: &[u16], full: bool) {
-    text(b" ;");
+pub fn table<W: Write>(out: &mut W, table: &[u16], full: bool) -> io::Result<()> {
+    text(out, b" ;")?;
     if full {
-        labels(table);
-        return;
+        return labels(out, table);
     }
-    number(lent::sum(table));
+    number(out, lent::sum(table))
 }
 
 // Writes whether what was lent is as it was.
-pub fn kept(kept: bool) {
+pub fn kept<W: Write>(out: &mut W, kept: bool) -> io::Result<()> {
     if kept {
-        text(b" kept");
+        text(out, b" kept")
     } else {
-        text(b" changed");
+        text(out, b" changed")
     }
 }
 
 // Writes whether the work tables are all 0.
-pub fn cleared(cleared: bool) {
+pub fn cleared<W: Write>(out: &mut W, cleared: bool) -> io::Result<()> {
     if cleared {
-        text(b" cleared");
+        text(out, b" cleared")
     } else {
-        text(b" uncleared");
+        text(out, b" uncleared")
     }
 }
 
 // Writes whether something is the same as something else.
-pub fn same(same: bool) {
+pub fn same<W: Write>(out: &mut W, same: bool) -> io::Result<()> {
     if same {
-        text(b" same");
+        text(out, b" same")
     } else {
-        text(b" differs");
+        text(out, b" differs")
     }
 }

@@ -1,6 +1,8 @@
 use crate::show;
 use case_sheets::lengths::Lengths;
 use case_sheets::lent;
+use std::io;
+use std::io::Write;
 use table_entries::entry;
 
 // The seven tables of a drawing, each with room for the longest.
@@ -64,7 +66,7 @@ pub fn given(lengths: &[u16], list: &[u16]) -> Tables {
 }
 
 // Whether seven tables are the same as seven others.
-pub fn same(tables: Tables, others: Tables) -> bool {
+pub fn same(tables: &Tables, others: &Tables) -> bool {
     entry::same(&tables.next1, &others.next1)
         & entry::same(&tables.side1, &others.side1)
         & entry::same(&tables.next3, &others.next3)
@@ -75,14 +77,19 @@ pub fn same(tables: Tables, others: Tables) -> bool {
 }
 
 // Writes the seven tables of a drawing, in full or by their sums.
-pub fn show(lengths: Lengths, tables: Tables, full: bool) {
-    show::table(front(&tables.next1, lengths.next1), full);
-    show::table(front(&tables.side1, lengths.side1), full);
-    show::table(front(&tables.next3, lengths.next3), full);
-    show::table(front(&tables.other3, lengths.other3), full);
-    show::table(front(&tables.parent, lengths.parent), full);
-    show::table(front(&tables.cells, lengths.cells), full);
-    show::table(front(&tables.borders, lengths.borders), full);
+pub fn show<W: Write>(
+    out: &mut W,
+    lengths: Lengths,
+    tables: &Tables,
+    full: bool,
+) -> io::Result<()> {
+    show::table(out, front(&tables.next1, lengths.next1), full)?;
+    show::table(out, front(&tables.side1, lengths.side1), full)?;
+    show::table(out, front(&tables.next3, lengths.next3), full)?;
+    show::table(out, front(&tables.other3, lengths.other3), full)?;
+    show::table(out, front(&tables.parent, lengths.parent), full)?;
+    show::table(out, front(&tables.cells, lengths.cells), full)?;
+    show::table(out, front(&tables.borders, lengths.borders), full)
 }
 
 // Whether a table is as it was before a call.
@@ -91,7 +98,7 @@ pub fn untouched(table: &[u16; lent::ROOM]) -> bool {
 }
 
 // Whether seven tables are as they were before a call.
-pub fn all_untouched(tables: Tables) -> bool {
+pub fn all_untouched(tables: &Tables) -> bool {
     untouched(&tables.next1)
         & untouched(&tables.side1)
         & untouched(&tables.next3)
@@ -102,7 +109,7 @@ pub fn all_untouched(tables: Tables) -> bool {
 }
 
 // Whether the work tables are as they were before a call.
-fn kept(works: Works) -> bool {
+fn kept(works: &Works) -> bool {
     untouched(&works.a) & untouched(&works.b) & untouched(&works.c) & untouched(&works.d)
 }
 
@@ -112,20 +119,26 @@ fn clear(table: &[u16; lent::ROOM], length: usize) -> bool {
 }
 
 // Whether the work tables are 0 up to their lengths.
-fn cleared(a: usize, b: usize, c: usize, d: usize, works: Works) -> bool {
+fn cleared(a: usize, b: usize, c: usize, d: usize, works: &Works) -> bool {
     clear(&works.a, a) & clear(&works.b, b) & clear(&works.c, c) & clear(&works.d, d)
 }
 
 // Writes whether the work tables of a call, which have these lengths, are as they were, for the refusals 1 to 4, and else
 // whether they are all 0.
-pub fn show_works(number: u16, a: usize, b: usize, c: usize, d: usize, works: Works) {
+pub fn show_works<W: Write>(
+    out: &mut W,
+    number: u16,
+    a: usize,
+    b: usize,
+    c: usize,
+    d: usize,
+    works: &Works,
+) -> io::Result<()> {
     if number == 0 {
-        show::cleared(cleared(a, b, c, d, works));
-        return;
+        return show::cleared(out, cleared(a, b, c, d, works));
     }
     if 4 < number {
-        show::cleared(cleared(a, b, c, d, works));
-        return;
+        return show::cleared(out, cleared(a, b, c, d, works));
     }
-    show::kept(kept(works));
+    show::kept(out, kept(works))
 }

@@ -7,43 +7,51 @@
 // sheet that was read: its labels, 'kept' where the rest of the table is 0, the number of writing it again, and 'kept'
 // where that gave the same deck. Of a sheet that was written: the bytes, which are dots before.
 #![tactic(auto)]
+
 mod tried;
 
 use case_files::{file, text};
+use std::io;
+use std::io::{BufWriter, Write};
+
+// How many bytes wait before they are written out.
+const PAGE: usize = 65536;
 
 // Runs the case of a line.
-fn run(line: &[u8]) {
+fn run<W: Write>(out: &mut W, line: &[u8]) -> io::Result<()> {
     if line.len() == 0 {
-        return;
+        return Ok(());
     }
     let kind = line[0];
     let first = text::number(line, 2);
     let rest = text::after(line, first.next);
     if kind == b'R' {
-        tried::read(rest, first.value as usize);
-        return;
+        return tried::read(out, rest, first.value as usize);
     }
     if kind == b'P' {
-        tried::part(rest, (first.value % 65536) as u16);
-        return;
+        return tried::part(out, rest, (first.value % 65536) as u16);
     }
     if kind == b'W' {
-        tried::write(rest, first.value);
+        return tried::write(out, rest, first.value);
     }
+    Ok(())
 }
 
 // Runs the case of each line.
-fn run_all(cases: &[u8]) {
+fn run_all<W: Write>(out: &mut W, cases: &[u8]) -> io::Result<()> {
     let mut at = 0;
     while at < cases.len() {
         let line = text::line(cases, at);
-        run(line);
+        run(out, line)?;
         at += line.len() + 1;
     }
+    Ok(())
 }
 
-fn main() {
+fn main(rt: HostRuntime) -> io::Result<()> {
     let mut bytes = file::room();
-    let n = file::read_all(&mut bytes);
-    run_all(&bytes[..n]);
+    let n = file::read_all(&rt, &mut bytes)?;
+    let mut out = BufWriter::with_capacity(rt.alloc(), PAGE, io::writer(&rt))?;
+    run_all(&mut out, &bytes[..n])?;
+    out.flush()
 }

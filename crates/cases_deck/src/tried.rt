@@ -5,6 +5,8 @@ use case_files::text;
 use case_sheets::lent;
 use case_tables::show;
 use deck_card::answer::{Read, Written};
+use std::io;
+use std::io::Write;
 
 // What a cell table holds before a call.
 const UNTOUCHED: u16 = 7;
@@ -61,104 +63,131 @@ fn write_into(width: u16, height: u16, sheet: &[u16], length: usize, bytes: &mut
 }
 
 // Whether the sheet's deck, written again, is the deck.
-fn show_again(width: u16, height: u16, sheet: &[u16], deck: &[u8]) {
+fn show_again<W: Write>(
+    out: &mut W,
+    width: u16,
+    height: u16,
+    sheet: &[u16],
+    deck: &[u8],
+) -> io::Result<()> {
     let mut again = dots();
     let answer = write_into(width, height, sheet, deck.len(), &mut again);
-    show::label(answer.number());
+    show::label(out, answer.number())?;
     let n = most_bytes(deck.len(), &again);
-    show::kept(check::same(&again[..n], deck));
+    show::kept(out, check::same(&again[..n], deck))
 }
 
 // The labels of a sheet that was read, whether the rest of the table is 0, and whether its deck is the same again.
-fn show_sheet(width: u16, height: u16, cells: &[u16], deck: &[u8]) {
+fn show_sheet<W: Write>(
+    out: &mut W,
+    width: u16,
+    height: u16,
+    cells: &[u16],
+    deck: &[u8],
+) -> io::Result<()> {
     let n = used(cells);
     let sheet = &cells[..n];
-    show::labels(sheet);
-    show::kept(lent::all_are(&cells[n..], 0));
-    show_again(width, height, sheet, deck);
+    show::labels(out, sheet)?;
+    show::kept(out, lent::all_are(&cells[n..], 0))?;
+    show_again(out, width, height, sheet, deck)
 }
 
 // What reading answered, and what the table holds.
-fn show_answer(answer: Read, deck: &[u8], cells: &[u16]) {
+fn show_answer<W: Write>(out: &mut W, answer: Read, deck: &[u8], cells: &[u16]) -> io::Result<()> {
     match answer {
         Read::Sheet { width, height } => {
-            show::label(0);
-            show::label(width);
-            show::label(height);
-            show_sheet(width, height, cells, deck);
+            show::label(out, 0)?;
+            show::label(out, width)?;
+            show::label(out, height)?;
+            show_sheet(out, width, height, cells, deck)?;
         }
         Read::Refused { number, card } => {
-            show::label(number);
-            show::label(card);
-            show::kept(lent::all_are(cells, UNTOUCHED));
+            show::label(out, number)?;
+            show::label(out, card)?;
+            show::kept(out, lent::all_are(cells, UNTOUCHED))?;
         }
     }
-    show::line_end();
+    show::line_end(out)
 }
 
-fn read_deck(deck: &[u8], length: usize) {
+// Reads a deck into a table of a length, and writes what is answered.
+fn read_deck<W: Write>(out: &mut W, deck: &[u8], length: usize) -> io::Result<()> {
     let mut cells = untouched();
     let answer = read_into(deck, length, &mut cells);
     let n = lent::most(length, &cells);
-    show_answer(answer, deck, &cells[..n]);
+    show_answer(out, answer, deck, &cells[..n])
 }
 
 // Reads the bytes of a case into a table of a length.
-pub(crate) fn read(line: &[u8], length: usize) {
+pub(crate) fn read<W: Write>(out: &mut W, line: &[u8], length: usize) -> io::Result<()> {
     let mut bytes = dots();
     let n = text::decode(line, &mut bytes);
-    show::text(b"read");
-    read_deck(&bytes[..n], length);
+    show::text(out, b"read")?;
+    read_deck(out, &bytes[..n], length)
 }
 
 // The part of a card that holds its cells.
-fn show_part(width: u16, card: &[u8]) {
-    show::label(deck_card::card::part_refusal(width, card));
-    show::bytes(deck_card::card::part(width, card));
-    show::line_end();
+fn show_part<W: Write>(out: &mut W, width: u16, card: &[u8]) -> io::Result<()> {
+    show::label(out, deck_card::card::part_refusal(width, card))?;
+    show::bytes(out, deck_card::card::part(width, card))?;
+    show::line_end(out)
 }
 
 // The part of a case's bytes.
-pub(crate) fn part(line: &[u8], width: u16) {
+pub(crate) fn part<W: Write>(out: &mut W, line: &[u8], width: u16) -> io::Result<()> {
     let mut bytes = dots();
     let n = text::decode(line, &mut bytes);
-    show::text(b"part");
-    show_part(width, &bytes[..n]);
+    show::text(out, b"part")?;
+    show_part(out, width, &bytes[..n])
 }
 
 // What writing answered, and the bytes.
-fn show_written(width: u16, height: u16, sheet: &[u16], length: usize) {
+fn show_written<W: Write>(
+    out: &mut W,
+    width: u16,
+    height: u16,
+    sheet: &[u16],
+    length: usize,
+) -> io::Result<()> {
     let mut bytes = dots();
     let answer = write_into(width, height, sheet, length, &mut bytes);
-    show::label(answer.number());
-    show::line_end();
+    show::label(out, answer.number())?;
+    show::line_end(out)?;
     let n = most_bytes(length, &bytes);
-    show::text(&bytes[..n]);
-    show::line_end();
+    show::text(out, &bytes[..n])?;
+    show::line_end(out)
 }
 
 // Writes a sheet.
-fn write_sheet(width: u32, height: u32, length: u32, line: &[u8]) {
+fn write_sheet<W: Write>(
+    out: &mut W,
+    width: u32,
+    height: u32,
+    length: u32,
+    line: &[u8],
+) -> io::Result<()> {
     let mut sheet = untouched();
     let n = text::numbers(line, &mut sheet);
-    show::text(b"write");
+    show::text(out, b"write")?;
     show_written(
+        out,
         (width % 65536) as u16,
         (height % 65536) as u16,
         &sheet[..n],
         length as usize,
-    );
+    )
 }
 
 // Writes the sheet of a case, whose width is known.
-pub(crate) fn write(line: &[u8], width: u32) {
+pub(crate) fn write<W: Write>(out: &mut W, line: &[u8], width: u32) -> io::Result<()> {
     let height = text::number(line, 0);
     let rest = text::after(line, height.next);
     let length = text::number(rest, 0);
     write_sheet(
+        out,
         width,
         height.value,
         length.value,
         text::after(rest, length.next),
-    );
+    )
 }

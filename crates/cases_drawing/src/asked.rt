@@ -9,6 +9,8 @@ use check_call::check;
 use count_answer::Count;
 use count_call::{count, turns};
 use point_darts::dart;
+use std::io;
+use std::io::Write;
 
 // What the check answered: its number, and the work tables after it.
 #[derive(Clone, Copy)]
@@ -35,20 +37,13 @@ pub struct Counted {
 }
 
 // Asks the check of tables of these lengths, with work tables that are not clear.
-fn check_of(size: Size, lengths: Lengths, tables: Tables) -> Checked
+fn check_of(size: Size, lengths: Lengths, tables: &Tables) -> Checked
     requires { Fits lengths }
 {
     let ka = lengths.a;
     let kb = lengths.b;
     let kc = lengths.c;
     let kd = lengths.d;
-    let next1 = tables.next1;
-    let side1 = tables.side1;
-    let next3 = tables.next3;
-    let other3 = tables.other3;
-    let parent = tables.parent;
-    let cells = tables.cells;
-    let borders = tables.borders;
     let mut a = [lent::UNTOUCHED; lent::ROOM];
     let mut b = [lent::UNTOUCHED; lent::ROOM];
     let mut c = [lent::UNTOUCHED; lent::ROOM];
@@ -56,13 +51,13 @@ fn check_of(size: Size, lengths: Lengths, tables: Tables) -> Checked
     let answer = check::check(
         size.width,
         size.height,
-        tables::front(&next1, lengths.next1),
-        tables::front(&side1, lengths.side1),
-        tables::front(&next3, lengths.next3),
-        tables::front(&other3, lengths.other3),
-        tables::front(&parent, lengths.parent),
-        tables::front(&cells, lengths.cells),
-        tables::front(&borders, lengths.borders),
+        tables::front(&tables.next1, lengths.next1),
+        tables::front(&tables.side1, lengths.side1),
+        tables::front(&tables.next3, lengths.next3),
+        tables::front(&tables.other3, lengths.other3),
+        tables::front(&tables.parent, lengths.parent),
+        tables::front(&tables.cells, lengths.cells),
+        tables::front(&tables.borders, lengths.borders),
         &mut a[..ka],
         &mut b[..kb],
         &mut c[..kc],
@@ -75,60 +70,60 @@ fn check_of(size: Size, lengths: Lengths, tables: Tables) -> Checked
 }
 
 // Writes how the work tables are left, and ends the line.
-fn show_end(number: u16, lengths: Lengths, works: Works) {
-    tables::show_works(number, lengths.a, lengths.b, lengths.c, lengths.d, works);
-    show::line_end();
+fn show_end<W: Write>(out: &mut W, number: u16, lengths: Lengths, works: &Works) -> io::Result<()> {
+    tables::show_works(
+        out, number, lengths.a, lengths.b, lengths.c, lengths.d, works,
+    )?;
+    show::line_end(out)
 }
 
 // What the check answers.
-pub(crate) fn check(size: Size, lengths: Lengths, tables: Tables)
+pub(crate) fn check<W: Write>(
+    out: &mut W,
+    size: Size,
+    lengths: Lengths,
+    tables: &Tables,
+) -> io::Result<()>
     requires { Fits lengths }
 {
     let checked = check_of(size, lengths, tables);
-    let works = checked.works;
-    show::text(b"check");
-    show::label(checked.number);
-    show_end(checked.number, lengths, works);
+    show::text(out, b"check")?;
+    show::label(out, checked.number)?;
+    show_end(out, checked.number, lengths, &checked.works)
 }
 
 // Writes each name, or dart, with its entries of two tables, where it has them.
-fn show_each(first: &[u16], second: &[u16]) {
+fn show_each<W: Write>(out: &mut W, first: &[u16], second: &[u16]) -> io::Result<()> {
     let mut i = 0;
     while i < first.len() {
         if i < second.len() {
-            show_one((i % 65536) as u16, first[i], second[i]);
+            show_one(out, (i % 65536) as u16, first[i], second[i])?;
         }
         i += 1;
     }
+    Ok(())
 }
 
 // Writes a name, or a dart, and its two entries, where they are not the mark.
-fn show_one(place: u16, first: u16, second: u16) {
+fn show_one<W: Write>(out: &mut W, place: u16, first: u16, second: u16) -> io::Result<()> {
     if first == dart::MARK {
         if second == dart::MARK {
-            return;
+            return Ok(());
         }
     }
-    show::label(place);
-    show::label(first);
-    show::label(second);
+    show::label(out, place)?;
+    show::label(out, first)?;
+    show::label(out, second)
 }
 
 // Counts all names of tables of these lengths into two tables of a length each, with work tables that are not clear.
-fn counts_of(size: Size, m: usize, h: usize, lengths: Lengths, tables: Tables) -> Filled
+fn counts_of(size: Size, m: usize, h: usize, lengths: Lengths, tables: &Tables) -> Filled
     requires { Fits lengths × (m ≤ room) × (h ≤ room) }
 {
     let ka = lengths.a;
     let kb = lengths.b;
     let kc = lengths.c;
     let kd = lengths.d;
-    let next1 = tables.next1;
-    let side1 = tables.side1;
-    let next3 = tables.next3;
-    let other3 = tables.other3;
-    let parent = tables.parent;
-    let cells = tables.cells;
-    let borders = tables.borders;
     let mut depths = [lent::UNTOUCHED; lent::ROOM];
     let mut holes = [lent::UNTOUCHED; lent::ROOM];
     let mut a = [lent::UNTOUCHED; lent::ROOM];
@@ -138,13 +133,13 @@ fn counts_of(size: Size, m: usize, h: usize, lengths: Lengths, tables: Tables) -
     let answer = count::counts(
         size.width,
         size.height,
-        tables::front(&next1, lengths.next1),
-        tables::front(&side1, lengths.side1),
-        tables::front(&next3, lengths.next3),
-        tables::front(&other3, lengths.other3),
-        tables::front(&parent, lengths.parent),
-        tables::front(&cells, lengths.cells),
-        tables::front(&borders, lengths.borders),
+        tables::front(&tables.next1, lengths.next1),
+        tables::front(&tables.side1, lengths.side1),
+        tables::front(&tables.next3, lengths.next3),
+        tables::front(&tables.other3, lengths.other3),
+        tables::front(&tables.parent, lengths.parent),
+        tables::front(&tables.cells, lengths.cells),
+        tables::front(&tables.borders, lengths.borders),
         &mut depths[..m],
         &mut holes[..h],
         &mut a[..ka],
@@ -161,37 +156,50 @@ fn counts_of(size: Size, m: usize, h: usize, lengths: Lengths, tables: Tables) -
 }
 
 // Two tables that were filled, in full or by their sums; of a refusal, whether the two are as they were.
-fn show_filled(m: usize, h: usize, full: bool, filled: Filled) {
+fn show_filled<W: Write>(
+    out: &mut W,
+    m: usize,
+    h: usize,
+    full: bool,
+    filled: &Filled,
+) -> io::Result<()> {
     if filled.number != 0 {
-        show::kept(tables::untouched(&filled.first));
-        show::kept(tables::untouched(&filled.second));
-        return;
+        show::kept(out, tables::untouched(&filled.first))?;
+        return show::kept(out, tables::untouched(&filled.second));
     }
-    let first = filled.first;
-    let second = filled.second;
     if full {
-        show_each(tables::front(&first, m), tables::front(&second, h));
-        return;
+        return show_each(
+            out,
+            tables::front(&filled.first, m),
+            tables::front(&filled.second, h),
+        );
     }
-    show::table(tables::front(&first, m), false);
-    show::table(tables::front(&second, h), false);
+    show::table(out, tables::front(&filled.first, m), false)?;
+    show::table(out, tables::front(&filled.second, h), false)
 }
 
 // What the counts of all names answer, in two tables of a length each.
-pub(crate) fn counts(size: Size, full: bool, m: usize, h: usize, lengths: Lengths, tables: Tables)
+pub(crate) fn counts<W: Write>(
+    out: &mut W,
+    size: Size,
+    full: bool,
+    m: usize,
+    h: usize,
+    lengths: Lengths,
+    tables: &Tables,
+) -> io::Result<()>
     requires { Fits lengths × (m ≤ room) × (h ≤ room) }
 {
     let filled = counts_of(size, m, h, lengths, tables);
-    let works = filled.works;
-    show::text(b"counts");
-    show::label(filled.number);
-    show_filled(m, h, full, filled);
-    show_end(filled.number, lengths, works);
+    show::text(out, b"counts")?;
+    show::label(out, filled.number)?;
+    show_filled(out, m, h, full, &filled)?;
+    show_end(out, filled.number, lengths, &filled.works)
 }
 
 // Counts the turns of the curves of tables of these lengths, into two tables as long as that of level 1 next, with work tables
 // that are not clear.
-fn turns_of(size: Size, lengths: Lengths, tables: Tables) -> Filled
+fn turns_of(size: Size, lengths: Lengths, tables: &Tables) -> Filled
     requires { Fits lengths }
 {
     let n = lengths.next1;
@@ -199,13 +207,6 @@ fn turns_of(size: Size, lengths: Lengths, tables: Tables) -> Filled
     let kb = lengths.b;
     let kc = lengths.c;
     let kd = lengths.d;
-    let next1 = tables.next1;
-    let side1 = tables.side1;
-    let next3 = tables.next3;
-    let other3 = tables.other3;
-    let parent = tables.parent;
-    let cells = tables.cells;
-    let borders = tables.borders;
     let mut right = [lent::UNTOUCHED; lent::ROOM];
     let mut left = [lent::UNTOUCHED; lent::ROOM];
     let mut a = [lent::UNTOUCHED; lent::ROOM];
@@ -215,13 +216,13 @@ fn turns_of(size: Size, lengths: Lengths, tables: Tables) -> Filled
     let answer = turns::turns(
         size.width,
         size.height,
-        tables::front(&next1, n),
-        tables::front(&side1, lengths.side1),
-        tables::front(&next3, lengths.next3),
-        tables::front(&other3, lengths.other3),
-        tables::front(&parent, lengths.parent),
-        tables::front(&cells, lengths.cells),
-        tables::front(&borders, lengths.borders),
+        tables::front(&tables.next1, n),
+        tables::front(&tables.side1, lengths.side1),
+        tables::front(&tables.next3, lengths.next3),
+        tables::front(&tables.other3, lengths.other3),
+        tables::front(&tables.parent, lengths.parent),
+        tables::front(&tables.cells, lengths.cells),
+        tables::front(&tables.borders, lengths.borders),
         &mut right[..n],
         &mut left[..n],
         &mut a[..ka],
@@ -238,15 +239,19 @@ fn turns_of(size: Size, lengths: Lengths, tables: Tables) -> Filled
 }
 
 // What the turns of the curves answer: each dart of level 3 with its right turns and its left turns.
-pub(crate) fn turns(size: Size, lengths: Lengths, tables: Tables)
+pub(crate) fn turns<W: Write>(
+    out: &mut W,
+    size: Size,
+    lengths: Lengths,
+    tables: &Tables,
+) -> io::Result<()>
     requires { Fits lengths }
 {
     let filled = turns_of(size, lengths, tables);
-    let works = filled.works;
-    show::text(b"turns");
-    show::label(filled.number);
-    show_filled(lengths.next1, lengths.next1, true, filled);
-    show_end(filled.number, lengths, works);
+    show::text(out, b"turns")?;
+    show::label(out, filled.number)?;
+    show_filled(out, lengths.next1, lengths.next1, true, &filled)?;
+    show_end(out, filled.number, lengths, &filled.works)
 }
 
 // The count of an answer, the mark for a refusal.
@@ -258,30 +263,22 @@ fn count_of(answer: Count) -> u16 {
 }
 
 // Writes the number of an answer, the count where there is one, and how the work tables are left.
-fn show_counted(lengths: Lengths, counted: Counted) {
-    let works = counted.works;
-    show::label(counted.number);
+fn show_counted<W: Write>(out: &mut W, lengths: Lengths, counted: &Counted) -> io::Result<()> {
+    show::label(out, counted.number)?;
     if counted.number == 0 {
-        show::label(counted.count);
+        show::label(out, counted.count)?;
     }
-    show_end(counted.number, lengths, works);
+    show_end(out, counted.number, lengths, &counted.works)
 }
 
 // Asks for the depth of a name in tables of these lengths, with work tables that are not clear.
-fn depth_of(size: Size, name: u16, lengths: Lengths, tables: Tables) -> Counted
+fn depth_of(size: Size, name: u16, lengths: Lengths, tables: &Tables) -> Counted
     requires { Fits lengths }
 {
     let ka = lengths.a;
     let kb = lengths.b;
     let kc = lengths.c;
     let kd = lengths.d;
-    let next1 = tables.next1;
-    let side1 = tables.side1;
-    let next3 = tables.next3;
-    let other3 = tables.other3;
-    let parent = tables.parent;
-    let cells = tables.cells;
-    let borders = tables.borders;
     let mut a = [lent::UNTOUCHED; lent::ROOM];
     let mut b = [lent::UNTOUCHED; lent::ROOM];
     let mut c = [lent::UNTOUCHED; lent::ROOM];
@@ -289,13 +286,13 @@ fn depth_of(size: Size, name: u16, lengths: Lengths, tables: Tables) -> Counted
     let answer = count::depth(
         size.width,
         size.height,
-        tables::front(&next1, lengths.next1),
-        tables::front(&side1, lengths.side1),
-        tables::front(&next3, lengths.next3),
-        tables::front(&other3, lengths.other3),
-        tables::front(&parent, lengths.parent),
-        tables::front(&cells, lengths.cells),
-        tables::front(&borders, lengths.borders),
+        tables::front(&tables.next1, lengths.next1),
+        tables::front(&tables.side1, lengths.side1),
+        tables::front(&tables.next3, lengths.next3),
+        tables::front(&tables.other3, lengths.other3),
+        tables::front(&tables.parent, lengths.parent),
+        tables::front(&tables.cells, lengths.cells),
+        tables::front(&tables.borders, lengths.borders),
         name,
         &mut a[..ka],
         &mut b[..kb],
@@ -310,28 +307,27 @@ fn depth_of(size: Size, name: u16, lengths: Lengths, tables: Tables) -> Counted
 }
 
 // What the depth of a name answers.
-pub(crate) fn depth(size: Size, name: u16, lengths: Lengths, tables: Tables)
+pub(crate) fn depth<W: Write>(
+    out: &mut W,
+    size: Size,
+    name: u16,
+    lengths: Lengths,
+    tables: &Tables,
+) -> io::Result<()>
     requires { Fits lengths }
 {
-    show::text(b"depth");
-    show_counted(lengths, depth_of(size, name, lengths, tables));
+    show::text(out, b"depth")?;
+    show_counted(out, lengths, &depth_of(size, name, lengths, tables))
 }
 
 // Asks for the hole count of a name in tables of these lengths, with work tables that are not clear.
-fn holes_of(size: Size, name: u16, lengths: Lengths, tables: Tables) -> Counted
+fn holes_of(size: Size, name: u16, lengths: Lengths, tables: &Tables) -> Counted
     requires { Fits lengths }
 {
     let ka = lengths.a;
     let kb = lengths.b;
     let kc = lengths.c;
     let kd = lengths.d;
-    let next1 = tables.next1;
-    let side1 = tables.side1;
-    let next3 = tables.next3;
-    let other3 = tables.other3;
-    let parent = tables.parent;
-    let cells = tables.cells;
-    let borders = tables.borders;
     let mut a = [lent::UNTOUCHED; lent::ROOM];
     let mut b = [lent::UNTOUCHED; lent::ROOM];
     let mut c = [lent::UNTOUCHED; lent::ROOM];
@@ -339,13 +335,13 @@ fn holes_of(size: Size, name: u16, lengths: Lengths, tables: Tables) -> Counted
     let answer = count::holes(
         size.width,
         size.height,
-        tables::front(&next1, lengths.next1),
-        tables::front(&side1, lengths.side1),
-        tables::front(&next3, lengths.next3),
-        tables::front(&other3, lengths.other3),
-        tables::front(&parent, lengths.parent),
-        tables::front(&cells, lengths.cells),
-        tables::front(&borders, lengths.borders),
+        tables::front(&tables.next1, lengths.next1),
+        tables::front(&tables.side1, lengths.side1),
+        tables::front(&tables.next3, lengths.next3),
+        tables::front(&tables.other3, lengths.other3),
+        tables::front(&tables.parent, lengths.parent),
+        tables::front(&tables.cells, lengths.cells),
+        tables::front(&tables.borders, lengths.borders),
         name,
         &mut a[..ka],
         &mut b[..kb],
@@ -360,32 +356,49 @@ fn holes_of(size: Size, name: u16, lengths: Lengths, tables: Tables) -> Counted
 }
 
 // What the hole count of a name answers.
-pub(crate) fn holes(size: Size, name: u16, lengths: Lengths, tables: Tables)
+pub(crate) fn holes<W: Write>(
+    out: &mut W,
+    size: Size,
+    name: u16,
+    lengths: Lengths,
+    tables: &Tables,
+) -> io::Result<()>
     requires { Fits lengths }
 {
-    show::text(b"holes");
-    show_counted(lengths, holes_of(size, name, lengths, tables));
+    show::text(out, b"holes")?;
+    show_counted(out, lengths, &holes_of(size, name, lengths, tables))
 }
 
 // Writes a name with its depth and its hole count, each asked for, where it has them.
-fn name(size: Size, name: u16, lengths: Lengths, tables: Tables)
+fn name<W: Write>(
+    out: &mut W,
+    size: Size,
+    name: u16,
+    lengths: Lengths,
+    tables: &Tables,
+) -> io::Result<()>
     requires { Fits lengths }
 {
     let depth = depth_of(size, name, lengths, tables);
     let holes = holes_of(size, name, lengths, tables);
-    show_one(name, depth.count, holes.count);
+    show_one(out, name, depth.count, holes.count)
 }
 
 // Writes each name that has a depth and a hole count, asked for one by one.
-pub(crate) fn names(size: Size, lengths: Lengths, tables: Tables)
+pub(crate) fn names<W: Write>(
+    out: &mut W,
+    size: Size,
+    lengths: Lengths,
+    tables: &Tables,
+) -> io::Result<()>
     requires { Fits lengths }
 {
-    show::text(b"names");
+    show::text(out, b"names")?;
     let count = lent::names(size.width, size.height);
     let mut i: u16 = 0;
     while i < count {
-        name(size, i, lengths, tables);
+        name(out, size, i, lengths, tables)?;
         i += 1;
     }
-    show::line_end();
+    show::line_end(out)
 }

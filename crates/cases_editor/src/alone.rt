@@ -6,6 +6,8 @@ use case_sheets::lengths::{Lengths, Size};
 use case_sheets::lent;
 use case_tables::show;
 use point_darts::dart;
+use std::io;
+use std::io::Write;
 use table_entries::entry;
 
 // What the tables by name say of a region.
@@ -48,18 +50,25 @@ fn keep_own(owners: &[u16], editor: u16, names: &mut [u16]) {
 }
 
 // Writes the region of each cell, 0 where it is not the editor's, and whether others are the same.
-fn show_cells(size: Size, owners: &[u16], editor: u16, regions: [u16; 8192], others: [u16; 8192]) {
-    let mut own = regions;
-    let mut among = others;
+fn show_cells<W: Write>(
+    out: &mut W,
+    size: Size,
+    owners: &[u16],
+    editor: u16,
+    regions: &[u16; 8192],
+    others: &[u16; 8192],
+) -> io::Result<()> {
+    let mut own = *regions;
+    let mut among = *others;
     keep_own(owners, editor, &mut own);
     keep_own(owners, editor, &mut among);
     let count = lent::cells(size.width, size.height);
-    show::table(lent::part(&own, 0, count), true);
-    show::same(entry::same(&own, &among));
+    show::table(out, lent::part(&own, 0, count), true)?;
+    show::same(out, entry::same(&own, &among))
 }
 
 // What the tables by name say of a region.
-fn region_of(left: Left, name: u16) -> Region {
+fn region_of(left: &Left, name: u16) -> Region {
     Region {
         present: entry::get(&left.parent, name) != dart::MARK,
         cells: entry::get(&left.cells, name),
@@ -75,46 +84,59 @@ fn same_region(region: Region, other: Region) -> bool {
 }
 
 // Writes what is said of a region, and whether the same is said among the other's calls; nothing where it is present neither time.
-fn show_region(name: u16, region: Region, among: Region) {
+fn show_region<W: Write>(out: &mut W, name: u16, region: Region, among: Region) -> io::Result<()> {
     if region.present | among.present {
-        show::text(b" ;");
-        show::label(name);
-        show::label(region.cells);
-        show::label(region.borders);
-        show::same(same_region(region, among));
+        show::text(out, b" ;")?;
+        show::label(out, name)?;
+        show::label(out, region.cells)?;
+        show::label(out, region.borders)?;
+        show::same(out, same_region(region, among))?;
     }
+    Ok(())
 }
 
 // Writes what is said of each region that the editor owns.
-fn show_regions(size: Size, owners: &[u16], editor: u16, left: Left, among: Left) {
+fn show_regions<W: Write>(
+    out: &mut W,
+    size: Size,
+    owners: &[u16],
+    editor: u16,
+    left: &Left,
+    among: &Left,
+) -> io::Result<()> {
     let count = lent::names(size.width, size.height);
     let mut name: u16 = 1;
     while name < count {
         if entry::get(owners, name) == editor {
-            show_region(name, region_of(left, name), region_of(among, name));
+            show_region(out, name, region_of(left, name), region_of(among, name))?;
         }
         name += 1;
     }
+    Ok(())
 }
 
 // Makes the calls of one editor alone, and writes what they answer, and the cells and totals of the editor's regions after them;
 // and of each whether it is so among the other's calls, given what those of both leave.
-pub(crate) fn show(
+pub(crate) fn show<W: Write>(
+    out: &mut W,
     size: Size,
     sheet: &[u16],
     owners: &[u16],
     calls: &[u16],
     editor: u16,
     lengths: Lengths,
-    among: Left,
-)
+    among: &Left,
+) -> io::Result<()>
     requires { Fits lengths }
 {
-    show::text(b"alone");
-    show::label(editor);
-    let left = mixture::left_by(size, sheet, owners, calls, editor, lengths);
-    show::same(same_replies(calls, editor, &left.replies, &among.replies));
-    show_cells(size, owners, editor, left.regions, among.regions);
-    show_regions(size, owners, editor, left, among);
-    show::line_end();
+    show::text(out, b"alone")?;
+    show::label(out, editor)?;
+    let left = mixture::left_by(out, size, sheet, owners, calls, editor, lengths)?;
+    show::same(
+        out,
+        same_replies(calls, editor, &left.replies, &among.replies),
+    )?;
+    show_cells(out, size, owners, editor, &left.regions, &among.regions)?;
+    show_regions(out, size, owners, editor, &left, among)?;
+    show::line_end(out)
 }

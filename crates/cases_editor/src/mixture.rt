@@ -9,6 +9,8 @@ use case_tables::tables;
 use case_tables::tables::Tables;
 use point_darts::dart;
 use point_darts::dart::Dart;
+use std::io;
+use std::io::Write;
 use table_entries::entry;
 
 // In place of an editor's number: the calls of both, and those with any other number.
@@ -54,33 +56,32 @@ fn is_made(editor: u16, whose: u16) -> bool {
     editor == whose
 }
 
-// Starts a drawing, makes the calls of one editor, or all of a list, one after another, and writes what each answers. The replies
-// come to stand at the places of their calls. Gives the tables after the last call.
-fn make(
+// Makes the calls of one editor, or all of a list, one after another in a drawing, and writes what each answers. The replies come
+// to stand at the places of their calls.
+fn make<W: Write>(
+    out: &mut W,
     size: Size,
-    sheet: &[u16],
     owners: &[u16],
     calls: &[u16],
     whose: u16,
     lengths: Lengths,
+    tables: &mut Tables,
     replies: &mut [u16],
-) -> Tables
+) -> io::Result<()>
     requires { Fits lengths }
 {
     let count = count_of(calls);
-    let mut joined = started::tables(size, sheet, owners, lengths);
     let mut i: u16 = 0;
     while i < count {
         let place = i;
         let call = call_at(calls, place);
         i += 1;
         if is_made(call.editor, whose) {
-            let reply = one::join_shown(size, owners, call, lengths, joined);
-            joined = reply.tables;
-            entry::put(replies, place, reply.number);
+            let number = one::join_shown(out, size, owners, call, lengths, tables)?;
+            entry::put(replies, place, number);
         }
     }
-    joined
+    Ok(())
 }
 
 // The dart that goes north along the left line of a cell.
@@ -136,30 +137,41 @@ fn front(table: &[u16; lent::ROOM]) -> [u16; 8192]
 
 // Makes the calls of one editor, or all of a list, in a drawing that is started, and writes what each answers; where all are made
 // also the tables after them. Gives what they leave.
-pub(crate) fn left_by(
+pub(crate) fn left_by<W: Write>(
+    out: &mut W,
     size: Size,
     sheet: &[u16],
     owners: &[u16],
     calls: &[u16],
     whose: u16,
     lengths: Lengths,
-) -> Left
+) -> io::Result<Left>
     requires { Fits lengths }
 {
     let mut replies = made::room();
-    let tables = make(size, sheet, owners, calls, whose, lengths, &mut replies);
+    let mut tables = started::tables(size, sheet, owners, lengths);
+    make(
+        out,
+        size,
+        owners,
+        calls,
+        whose,
+        lengths,
+        &mut tables,
+        &mut replies,
+    )?;
     if whose == ALL {
-        tables::show(lengths, tables, true);
+        tables::show(out, lengths, &tables, true)?;
     }
     let regions = regions_of(size, tables::front(&tables.side1, lengths.side1));
     let parent = front(&tables.parent);
     let cells = front(&tables.cells);
     let borders = front(&tables.borders);
-    Left {
+    Ok(Left {
         replies,
         regions,
         parent,
         cells,
         borders,
-    }
+    })
 }

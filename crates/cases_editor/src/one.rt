@@ -4,6 +4,8 @@ use case_sheets::lengths::{Lengths, Size};
 use case_sheets::lent;
 use case_tables::tables::{Answered, Tables, Works};
 use case_tables::{show, tables};
+use std::io;
+use std::io::Write;
 
 // What an editor asks: that two names are joined.
 #[derive(Clone, Copy)]
@@ -13,15 +15,8 @@ pub struct Call {
     pub second: u16,
 }
 
-// The reply to a call: its number, and the tables after it.
-#[derive(Clone, Copy)]
-pub struct Reply {
-    pub number: u16,
-    pub tables: Tables,
-}
-
 // Joins as an editor in tables of these lengths, with work tables that are not clear.
-fn join(size: Size, owners: &[u16], call: Call, lengths: Lengths, tables: Tables) -> Answered
+fn join(size: Size, owners: &[u16], call: Call, lengths: Lengths, tables: &Tables) -> Answered
     requires { Fits lengths }
 {
     let x = lengths.next1;
@@ -81,29 +76,43 @@ fn join(size: Size, owners: &[u16], call: Call, lengths: Lengths, tables: Tables
 }
 
 // Writes of a refusal whether the seven tables are as they were.
-fn show_kept(number: u16, before: Tables, after: Tables) {
+fn show_kept<W: Write>(
+    out: &mut W,
+    number: u16,
+    before: &Tables,
+    after: &Tables,
+) -> io::Result<()> {
     if number != 0 {
-        show::kept(tables::same(before, after));
+        show::kept(out, tables::same(before, after))?;
     }
+    Ok(())
 }
 
 // Joins as an editor and writes what is answered: its number, of a refusal whether the seven tables are as they were, and how the
-// work tables are left. Gives the reply.
-pub(crate) fn join_shown(
+// work tables are left. Gives the number.
+pub(crate) fn join_shown<W: Write>(
+    out: &mut W,
     size: Size,
     owners: &[u16],
     call: Call,
     lengths: Lengths,
-    before: Tables,
-) -> Reply
+    tables: &mut Tables,
+) -> io::Result<u16>
     requires { Fits lengths }
 {
-    let joined = join(size, owners, call, lengths, before);
+    let joined = join(size, owners, call, lengths, tables);
     let number = joined.number;
-    let tables = joined.tables;
-    let works = joined.works;
-    show::label(number);
-    show_kept(number, before, tables);
-    tables::show_works(number, lengths.a, lengths.b, lengths.c, lengths.d, works);
-    Reply { number, tables }
+    show::label(out, number)?;
+    show_kept(out, number, tables, &joined.tables)?;
+    tables::show_works(
+        out,
+        number,
+        lengths.a,
+        lengths.b,
+        lengths.c,
+        lengths.d,
+        &joined.works,
+    )?;
+    *tables = joined.tables;
+    Ok(number)
 }

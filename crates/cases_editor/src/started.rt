@@ -4,6 +4,8 @@ use case_sheets::lengths::{Lengths, Size};
 use case_sheets::lent;
 use case_tables::tables::{Answered, Tables, Works};
 use case_tables::{show, tables};
+use std::io;
+use std::io::Write;
 
 // Starts the drawing of a sheet with owners in tables of these lengths, with work tables that are not clear.
 fn start(size: Size, sheet: &[u16], owners: &[u16], lengths: Lengths) -> Answered
@@ -72,28 +74,46 @@ pub(crate) fn tables(size: Size, sheet: &[u16], owners: &[u16], lengths: Lengths
 
 // Writes of a start that was refused whether the seven tables are as they were, and of one that was done whether they are
 // those of the plain drawing.
-fn show_tables(size: Size, sheet: &[u16], lengths: Lengths, number: u16, tables: Tables)
+fn show_tables<W: Write>(
+    out: &mut W,
+    size: Size,
+    sheet: &[u16],
+    lengths: Lengths,
+    number: u16,
+    tables: &Tables,
+) -> io::Result<()>
     requires { Fits lengths }
 {
     if number != 0 {
-        show::kept(tables::all_untouched(tables));
-        return;
+        return show::kept(out, tables::all_untouched(tables));
     }
-    let drawn = case_drawing::draw(size, sheet, lengths).tables;
-    show::same(tables::same(tables, drawn));
+    let drawn = case_drawing::draw(size, sheet, lengths);
+    show::same(out, tables::same(tables, &drawn.tables))
 }
 
 // Starts a drawing and writes what is answered.
-pub(crate) fn show(size: Size, sheet: &[u16], owners: &[u16], lengths: Lengths)
+pub(crate) fn show<W: Write>(
+    out: &mut W,
+    size: Size,
+    sheet: &[u16],
+    owners: &[u16],
+    lengths: Lengths,
+) -> io::Result<()>
     requires { Fits lengths }
 {
     let started = start(size, sheet, owners, lengths);
     let number = started.number;
-    let tables = started.tables;
-    let works = started.works;
-    show::text(b"start");
-    show::label(number);
-    show_tables(size, sheet, lengths, number, tables);
-    tables::show_works(number, lengths.a, lengths.b, lengths.c, lengths.d, works);
-    show::line_end();
+    show::text(out, b"start")?;
+    show::label(out, number)?;
+    show_tables(out, size, sheet, lengths, number, &started.tables)?;
+    tables::show_works(
+        out,
+        number,
+        lengths.a,
+        lengths.b,
+        lengths.c,
+        lengths.d,
+        &started.works,
+    )?;
+    show::line_end(out)
 }

@@ -6,6 +6,8 @@ use case_tables::tables::{Tables, Works};
 use case_tables::{show, tables};
 use join_call::list;
 use join_list::each::Listed;
+use std::io;
+use std::io::Write;
 
 // What a list answered, and the tables after it.
 #[derive(Clone, Copy)]
@@ -16,7 +18,7 @@ pub struct Joined {
 }
 
 // Joins by a list of names in tables of these lengths, with work tables that are not clear.
-fn join(size: Size, names: &[u16], lengths: Lengths, tables: Tables) -> Joined
+fn join(size: Size, names: &[u16], lengths: Lengths, tables: &Tables) -> Joined
     requires { Fits lengths }
 {
     let x = lengths.next1;
@@ -84,34 +86,52 @@ fn number(answer: Listed) -> u16 {
 }
 
 // Writes the place of a refusal, and whether the seven tables are as they were; nothing where the list is done.
-fn show_refusal(answer: Listed, same: bool) {
+fn show_refusal<W: Write>(out: &mut W, answer: Listed, same: bool) -> io::Result<()> {
     match answer {
-        Listed::Done => {}
+        Listed::Done => Ok(()),
         Listed::Refused { answer: _, place } => {
-            show::text(b" place");
-            show::label(place);
-            show::kept(same);
+            show::text(out, b" place")?;
+            show::label(out, place)?;
+            show::kept(out, same)
         }
     }
 }
 
 // Writes what a list answered: its number, of a refusal its place and whether the seven tables are as they were, and how
 // the work tables are left.
-fn show_answer(lengths: Lengths, before: Tables, joined: Joined) {
+fn show_answer<W: Write>(
+    out: &mut W,
+    lengths: Lengths,
+    before: &Tables,
+    joined: &Joined,
+) -> io::Result<()> {
     let answer = joined.answer;
-    let tables = joined.tables;
-    let works = joined.works;
     let number = number(answer);
-    show::label(number);
-    show_refusal(answer, tables::same(before, tables));
-    tables::show_works(number, lengths.a, lengths.b, lengths.c, lengths.d, works);
+    show::label(out, number)?;
+    show_refusal(out, answer, tables::same(before, &joined.tables))?;
+    tables::show_works(
+        out,
+        number,
+        lengths.a,
+        lengths.b,
+        lengths.c,
+        lengths.d,
+        &joined.works,
+    )
 }
 
-// Joins by a list of names and writes what is answered; gives the tables after it.
-pub(crate) fn join_shown(size: Size, names: &[u16], lengths: Lengths, tables: Tables) -> Tables
+// Joins by a list of names and writes what is answered.
+pub(crate) fn join_shown<W: Write>(
+    out: &mut W,
+    size: Size,
+    names: &[u16],
+    lengths: Lengths,
+    tables: &mut Tables,
+) -> io::Result<()>
     requires { Fits lengths }
 {
     let joined = join(size, names, lengths, tables);
-    show_answer(lengths, tables, joined);
-    joined.tables
+    show_answer(out, lengths, tables, &joined)?;
+    *tables = joined.tables;
+    Ok(())
 }

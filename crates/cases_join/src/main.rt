@@ -15,35 +15,44 @@
 // after so many joins each and after the last: how many were done, how many regions are left, whether the tables are those
 // drawn afresh, and their sums.
 #![tactic(auto)]
+
 mod listed;
 mod one;
 mod sitting;
 mod tried;
 
 use case_files::{file, text};
+use std::io;
+use std::io::{BufWriter, Write};
+
+// How many bytes wait before they are written out.
+const PAGE: usize = 65536;
 
 // Runs the case of a line.
-fn run(line: &[u8]) {
+fn run<W: Write>(out: &mut W, line: &[u8]) -> io::Result<()> {
     if line.len() == 0 {
-        return;
+        return Ok(());
     }
     let mut values = text::room();
     let n = text::numbers(text::after(line, 1), &mut values);
-    tried::run(line[0], &values[..n]);
+    tried::run(out, line[0], &values[..n])
 }
 
 // Runs the case of each line.
-fn run_all(cases: &[u8]) {
+fn run_all<W: Write>(out: &mut W, cases: &[u8]) -> io::Result<()> {
     let mut at = 0;
     while at < cases.len() {
         let line = text::line(cases, at);
-        run(line);
+        run(out, line)?;
         at += line.len() + 1;
     }
+    Ok(())
 }
 
-fn main() {
+fn main(rt: HostRuntime) -> io::Result<()> {
     let mut bytes = file::room();
-    let n = file::read_all(&mut bytes);
-    run_all(&bytes[..n]);
+    let n = file::read_all(&rt, &mut bytes)?;
+    let mut out = BufWriter::with_capacity(rt.alloc(), PAGE, io::writer(&rt))?;
+    run_all(&mut out, &bytes[..n])?;
+    out.flush()
 }

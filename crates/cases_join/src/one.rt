@@ -6,6 +6,8 @@ use case_sheets::lent;
 use case_tables::tables::{Answered, Tables, Works};
 use case_tables::{show, tables};
 use join_call::regions;
+use std::io;
+use std::io::Write;
 use table_entries::entry;
 
 // Joins two names in tables of these lengths, with work tables that are not clear.
@@ -14,7 +16,7 @@ pub(crate) fn join(
     first: u16,
     second: u16,
     lengths: Lengths,
-    tables: Tables,
+    tables: &Tables,
 ) -> Answered
     requires { Fits lengths }
 {
@@ -74,24 +76,43 @@ pub(crate) fn join(
 
 // Writes what a join answered: its number, of a refusal whether the seven tables are as they were, and how the work tables
 // are left.
-fn show_answer(lengths: Lengths, before: Tables, joined: Answered) {
+fn show_answer<W: Write>(
+    out: &mut W,
+    lengths: Lengths,
+    before: &Tables,
+    joined: &Answered,
+) -> io::Result<()> {
     let number = joined.number;
-    let tables = joined.tables;
-    let works = joined.works;
-    show::label(number);
+    show::label(out, number)?;
     if number != 0 {
-        show::kept(tables::same(before, tables));
+        show::kept(out, tables::same(before, &joined.tables))?;
     }
-    tables::show_works(number, lengths.a, lengths.b, lengths.c, lengths.d, works);
+    tables::show_works(
+        out,
+        number,
+        lengths.a,
+        lengths.b,
+        lengths.c,
+        lengths.d,
+        &joined.works,
+    )
 }
 
-// Joins two names and writes what is answered; gives the tables after it.
-fn join_shown(size: Size, first: u16, second: u16, lengths: Lengths, tables: Tables) -> Tables
+// Joins two names and writes what is answered.
+fn join_shown<W: Write>(
+    out: &mut W,
+    size: Size,
+    first: u16,
+    second: u16,
+    lengths: Lengths,
+    tables: &mut Tables,
+) -> io::Result<()>
     requires { Fits lengths }
 {
     let joined = join(size, first, second, lengths, tables);
-    show_answer(lengths, tables, joined);
-    joined.tables
+    show_answer(out, lengths, tables, &joined)?;
+    *tables = joined.tables;
+    Ok(())
 }
 
 // How many pairs a list has, at most 30,000.
@@ -105,18 +126,23 @@ fn pairs_of(names: &[u16]) -> u16
     30000
 }
 
-// Joins the names of a list, two by two, and gives the tables after the last join.
-pub(crate) fn join_all(size: Size, names: &[u16], lengths: Lengths, tables: Tables) -> Tables
+// Joins the names of a list, two by two.
+pub(crate) fn join_all<W: Write>(
+    out: &mut W,
+    size: Size,
+    names: &[u16],
+    lengths: Lengths,
+    tables: &mut Tables,
+) -> io::Result<()>
     requires { Fits lengths }
 {
     let pairs = pairs_of(names);
-    let mut joined = tables;
     let mut i: u16 = 0;
     while i < pairs {
         let first = entry::get(names, 2 * i);
         let second = entry::get(names, 2 * i + 1);
-        joined = join_shown(size, first, second, lengths, joined);
+        join_shown(out, size, first, second, lengths, tables)?;
         i += 1;
     }
-    joined
+    Ok(())
 }

@@ -1,4 +1,4 @@
-ghost use Rattle.std.specs.Prelude.{◌+◌, ◌≤◌, ◌<◌};
+ghost use Rattle.std.specs.Prelude.{◌+◌, ◌≤◌, ◌<◌, IfOk};
 ghost use Rattle.case_sheets.specs.Room.{Fits};
 
 use crate::one;
@@ -8,6 +8,8 @@ use case_tables::tables::Tables;
 use case_tables::{show, tables};
 use point_darts::dart;
 use point_darts::dart::Dart;
+use std::io;
+use std::io::Write;
 use table_entries::entry;
 
 // How a sitting goes: after how many joins each the tables are compared, and how far it is from a dart to the next.
@@ -57,6 +59,7 @@ fn lowered(name: u16, sides: Sides) -> u16 {
     name
 }
 
+// The smaller of the names on the two sides.
 fn least(sides: Sides) -> u16 {
     if sides.right < sides.left {
         return sides.right;
@@ -95,27 +98,36 @@ fn regions_left(parent: &[u16]) -> u16 {
     count
 }
 
-fn show_refusal(number: u16) {
-    show::text(b"\nrefused");
-    show::label(number);
+// Writes the number of a refusal, on a line of its own.
+fn show_refusal<W: Write>(out: &mut W, number: u16) -> io::Result<()> {
+    show::text(out, b"\nrefused")?;
+    show::label(out, number)
 }
 
-fn show_count(done: u64, left: u16) {
-    show::text(b"\nsitting");
-    show::number(done);
-    show::label(left);
+// Writes how many joins were done and how many regions are left, on a line of its own.
+fn show_count<W: Write>(out: &mut W, done: u64, left: u16) -> io::Result<()> {
+    show::text(out, b"\nsitting")?;
+    show::number(out, done)?;
+    show::label(out, left)
 }
 
 // Writes how a sitting stands: how many joins were done, how many regions are left, whether the tables are those drawn
 // afresh, and their sums.
-fn show_standing(size: Size, lengths: Lengths, names: &[u16], done: u64, tables: Tables)
+fn show_standing<W: Write>(
+    out: &mut W,
+    size: Size,
+    lengths: Lengths,
+    names: &[u16],
+    done: u64,
+    tables: &Tables,
+) -> io::Result<()>
     requires { Fits lengths }
 {
     let left = regions_left(tables::front(&tables.parent, lengths.parent));
-    show_count(done, left);
-    let fresh = case_drawing::draw(size, names, lengths).tables;
-    show::same(tables::same(tables, fresh));
-    tables::show(lengths, tables, false);
+    show_count(out, done, left)?;
+    let fresh = case_drawing::draw(size, names, lengths);
+    show::same(out, tables::same(tables, &fresh.tables))?;
+    tables::show(out, lengths, tables, false)
 }
 
 // Whether a join was done, and so many joins are a multiple of a number.
@@ -130,16 +142,22 @@ fn is_due(number: u16, done: u64, every: u16) -> bool {
 }
 
 // How many joins were done after one more, which lowers the names of the cells; a refusal is written.
-fn counted_on(number: u16, sides: Sides, names: &mut [u16], done: u64) -> u64
+fn counted_on<W: Write>(
+    out: &mut W,
+    number: u16,
+    sides: Sides,
+    names: &mut [u16],
+    done: u64,
+) -> io::Result<u64>
     requires { done < 4294967296 }
-    ensures { result ≤ done + 1 }
+    ensures { IfOk result (λ count. count ≤ done + 1) }
 {
     if number != 0 {
-        show_refusal(number);
-        return done;
+        show_refusal(out, number)?;
+        return Ok(done);
     }
     lower(sides, names);
-    done + 1
+    Ok(done + 1)
 }
 
 // The slot so many numbers after a slot, round the end.
@@ -152,27 +170,33 @@ fn stride_on(number: u16, stride: u16, slots: u16) -> u16 {
 
 // A sitting over a drawing: every slot is visited, each a stride after the one before, and the regions on the two sides
 // of its dart are joined.
-pub(crate) fn sit(size: Size, lengths: Lengths, pace: Pace, names: &mut [u16], tables: Tables)
+pub(crate) fn sit<W: Write>(
+    out: &mut W,
+    size: Size,
+    lengths: Lengths,
+    pace: Pace,
+    names: &mut [u16],
+    tables: &mut Tables,
+) -> io::Result<()>
     requires { Fits lengths }
 {
     let slots = lent::slots(size.width, size.height);
-    let mut joined = tables;
     let mut done: u64 = 0;
     let mut number: u16 = 0;
     let mut i: u16 = 0;
     while i < slots {
-        let side1 = tables::front(&joined.side1, lengths.side1);
+        let side1 = tables::front(&tables.side1, lengths.side1);
         let sides = sides_of(size, side1, number);
         number = stride_on(number, pace.stride, slots);
         i += 1;
         if are_regions(sides) {
-            let answer = one::join(size, sides.right, sides.left, lengths, joined);
-            joined = answer.tables;
-            done = counted_on(answer.number, sides, names, done);
+            let answer = one::join(size, sides.right, sides.left, lengths, tables);
+            *tables = answer.tables;
+            done = counted_on(out, answer.number, sides, names, done)?;
             if is_due(answer.number, done, pace.every) {
-                show_standing(size, lengths, names, done, joined);
+                show_standing(out, size, lengths, names, done, tables)?;
             }
         }
     }
-    show_standing(size, lengths, names, done, joined);
+    show_standing(out, size, lengths, names, done, tables)
 }

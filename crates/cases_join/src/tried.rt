@@ -6,15 +6,17 @@ use case_sheets::lengths::{Lengths, Size};
 use case_sheets::{lengths, lent, made};
 use case_tables::tables::Tables;
 use case_tables::{show, tables};
+use std::io;
+use std::io::Write;
 use table_entries::entry;
 
 // Joins two names in seven tables that a case gives.
-fn join_given(size: Size, values: &[u16], lengths: Lengths)
+fn join_given<W: Write>(out: &mut W, size: Size, values: &[u16], lengths: Lengths) -> io::Result<()>
     requires { Fits lengths }
 {
     let list = lent::from(values, 2);
-    let tables = tables::given(list, lent::from(list, 11));
-    one::join_all(size, lent::part(values, 0, 2), lengths, tables);
+    let mut tables = tables::given(list, lent::from(list, 11));
+    one::join_all(out, size, lent::part(values, 0, 2), lengths, &mut tables)
 }
 
 // The place after the list that a case starts with: its count, and its names.
@@ -23,28 +25,35 @@ fn list_end(values: &[u16]) -> usize {
 }
 
 // Joins by a list in seven tables that a case gives.
-fn list_given(size: Size, values: &[u16], lengths: Lengths)
+fn list_given<W: Write>(out: &mut W, size: Size, values: &[u16], lengths: Lengths) -> io::Result<()>
     requires { Fits lengths }
 {
     let end = list_end(values);
     let list = lent::from(values, end);
-    let tables = tables::given(list, lent::from(list, 11));
-    listed::join_shown(size, lent::part(values, 1, end), lengths, tables);
+    let mut tables = tables::given(list, lent::from(list, 11));
+    listed::join_shown(out, size, lent::part(values, 1, end), lengths, &mut tables)
 }
 
 // Joins the names of a case in its drawing, and writes the seven tables where they are asked for.
-fn join_names(kind: u8, size: Size, names: &[u16], lengths: Lengths, tables: Tables)
+fn join_names<W: Write>(
+    out: &mut W,
+    kind: u8,
+    size: Size,
+    names: &[u16],
+    lengths: Lengths,
+    tables: &mut Tables,
+) -> io::Result<()>
     requires { Fits lengths }
 {
     if kind == b'L' {
-        let joined = listed::join_shown(size, names, lengths, tables);
-        tables::show(lengths, joined, true);
-        return;
+        listed::join_shown(out, size, names, lengths, tables)?;
+        return tables::show(out, lengths, tables, true);
     }
-    let joined = one::join_all(size, names, lengths, tables);
+    one::join_all(out, size, names, lengths, tables)?;
     if kind == b'T' {
-        tables::show(lengths, joined, true);
+        tables::show(out, lengths, tables, true)?;
     }
+    Ok(())
 }
 
 // The pace that a case gives.
@@ -56,24 +65,28 @@ fn pace_of(values: &[u16]) -> Pace {
 }
 
 // Goes through a case with tables of these lengths.
-fn go(kind: u8, size: Size, sheet: &mut [u16], values: &[u16], lengths: Lengths)
+fn go<W: Write>(
+    out: &mut W,
+    kind: u8,
+    size: Size,
+    sheet: &mut [u16],
+    values: &[u16],
+    lengths: Lengths,
+) -> io::Result<()>
     requires { Fits lengths }
 {
     if kind == b'J' {
-        join_given(size, values, lengths);
-        return;
+        return join_given(out, size, values, lengths);
     }
     if kind == b'M' {
-        list_given(size, values, lengths);
-        return;
+        return list_given(out, size, values, lengths);
     }
-    let tables = case_drawing::draw(size, sheet, lengths).tables;
+    let mut tables = case_drawing::draw(size, sheet, lengths).tables;
     if kind == b'D' {
-        sitting::sit(size, lengths, pace_of(values), sheet, tables);
-        return;
+        return sitting::sit(out, size, lengths, pace_of(values), sheet, &mut tables);
     }
     let names = lent::from(values, sheet.len());
-    join_names(kind, size, names, lengths, tables);
+    join_names(out, kind, size, names, lengths, &mut tables)
 }
 
 // The lengths of the tables of a case: those that it gives with its tables, else the stated ones.
@@ -90,7 +103,7 @@ fn lengths_of(kind: u8, size: Size, values: &[u16]) -> Lengths
 }
 
 // Runs a case.
-pub(crate) fn run(kind: u8, values: &[u16]) {
+pub(crate) fn run<W: Write>(out: &mut W, kind: u8, values: &[u16]) -> io::Result<()> {
     let size = Size {
         width: entry::get(values, 0),
         height: entry::get(values, 1),
@@ -98,13 +111,14 @@ pub(crate) fn run(kind: u8, values: &[u16]) {
     let rest = lent::from(values, 2);
     let mut sheet = made::room();
     let n = made::sheet(kind, size.width, size.height, rest, &mut sheet);
-    show::text(b"join");
+    show::text(out, b"join")?;
     go(
+        out,
         kind,
         size,
         &mut sheet[..n],
         rest,
         lengths_of(kind, size, rest),
-    );
-    show::line_end();
+    )?;
+    show::line_end(out)
 }

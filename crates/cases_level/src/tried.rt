@@ -4,6 +4,8 @@ ghost use Rattle.case_sheets.specs.Room.{room};
 use case_sheets::{lent, made};
 use case_tables::tables::Works;
 use case_tables::{show, tables};
+use std::io;
+use std::io::Write;
 use table_entries::entry;
 
 // The width, the height and the level of a case.
@@ -38,8 +40,8 @@ pub struct Answered {
 
 // The lengths that a case gives.
 fn lengths_of(lengths: &[u16]) -> Lengths
-    ensures { (result.next ≤ room) × (result.other ≤ room) × (result.side ≤ room) × (result.a ≤ room) × (result.b ≤ room) × (result.c ≤ room) ×
-        (result.d ≤ room) }
+    ensures { (result.next ≤ room) × (result.other ≤ room) × (result.side ≤ room) × (result.a ≤ room) ×
+        (result.b ≤ room) × (result.c ≤ room) × (result.d ≤ room) }
 {
     Lengths {
         next: lent::length(lengths, 0),
@@ -94,7 +96,7 @@ fn draw(case: Case, sheet: &[u16], lengths: Lengths) -> Answered
 }
 
 // Whether the result tables are as they were.
-fn untouched(drawn: Answered) -> bool {
+fn untouched(drawn: &Answered) -> bool {
     if !tables::untouched(&drawn.next) {
         return false;
     }
@@ -105,55 +107,70 @@ fn untouched(drawn: Answered) -> bool {
 }
 
 // The result tables of a level that was drawn, in full or their sums; of a refusal, whether they are as they were.
-fn show_tables(full: bool, lengths: Lengths, drawn: Answered) {
+fn show_tables<W: Write>(
+    out: &mut W,
+    full: bool,
+    lengths: Lengths,
+    drawn: &Answered,
+) -> io::Result<()> {
     if drawn.number == 0 {
-        show::table(tables::front(&drawn.next, lengths.next), full);
-        show::table(tables::front(&drawn.other, lengths.other), full);
-        show::table(tables::front(&drawn.side, lengths.side), full);
-        return;
+        show::table(out, tables::front(&drawn.next, lengths.next), full)?;
+        show::table(out, tables::front(&drawn.other, lengths.other), full)?;
+        return show::table(out, tables::front(&drawn.side, lengths.side), full);
     }
-    show::kept(untouched(drawn));
+    show::kept(out, untouched(drawn))
 }
 
 // Writes what drawing a level answered.
-fn show_drawn(full: bool, lengths: Lengths, drawn: Answered) {
-    let works = drawn.works;
-    show::text(b"level");
-    show::label(drawn.number);
-    show_tables(full, lengths, drawn);
+fn show_drawn<W: Write>(
+    out: &mut W,
+    full: bool,
+    lengths: Lengths,
+    drawn: &Answered,
+) -> io::Result<()> {
+    show::text(out, b"level")?;
+    show::label(out, drawn.number)?;
+    show_tables(out, full, lengths, drawn)?;
     tables::show_works(
+        out,
         drawn.number,
         lengths.a,
         lengths.b,
         lengths.c,
         lengths.d,
-        works,
-    );
-    show::line_end();
+        &drawn.works,
+    )?;
+    show::line_end(out)
 }
 
 // Draws the sheet of a case into tables of the lengths of a list.
-fn draw_case(case: Case, sheet: &[u16], list: &[u16], full: bool) {
+fn draw_case<W: Write>(
+    out: &mut W,
+    case: Case,
+    sheet: &[u16],
+    list: &[u16],
+    full: bool,
+) -> io::Result<()> {
     let lengths = lengths_of(list);
-    show_drawn(full, lengths, draw(case, sheet, lengths));
+    show_drawn(out, full, lengths, &draw(case, sheet, lengths))
 }
 
 // Draws the sheet of a case into tables of slot length.
-fn draw_slots(case: Case, sheet: &[u16], full: bool) {
+fn draw_slots<W: Write>(out: &mut W, case: Case, sheet: &[u16], full: bool) -> io::Result<()> {
     let slots = lent::slots(case.width, case.height);
     let lengths = [slots; 7];
-    draw_case(case, sheet, &lengths, full);
+    draw_case(out, case, sheet, &lengths, full)
 }
 
 // Draws a sheet that is made by a rule.
-fn draw_made(case: Case, kind: u8, values: &[u16]) {
+fn draw_made<W: Write>(out: &mut W, case: Case, kind: u8, values: &[u16]) -> io::Result<()> {
     let mut sheet = made::room();
     let n = made::sheet(kind, case.width, case.height, values, &mut sheet);
-    draw_slots(case, &sheet[..n], false);
+    draw_slots(out, case, &sheet[..n], false)
 }
 
 // Runs a case.
-pub(crate) fn run(kind: u8, values: &[u16]) {
+pub(crate) fn run<W: Write>(out: &mut W, kind: u8, values: &[u16]) -> io::Result<()> {
     let case = Case {
         width: entry::get(values, 0),
         height: entry::get(values, 1),
@@ -161,12 +178,10 @@ pub(crate) fn run(kind: u8, values: &[u16]) {
     };
     let rest = lent::from(values, 3);
     if kind == b'T' {
-        draw_slots(case, rest, true);
-        return;
+        return draw_slots(out, case, rest, true);
     }
     if kind == b'L' {
-        draw_case(case, lent::from(rest, 7), rest, true);
-        return;
+        return draw_case(out, case, lent::from(rest, 7), rest, true);
     }
-    draw_made(case, kind, rest);
+    draw_made(out, case, kind, rest)
 }

@@ -1,10 +1,11 @@
 // Lists the sheet of the deck on standard input: a line for the sheet, then a line for each region and for each edge of
 // level 3. A deck that is refused is answered by one line, with the number of the refusal and of the card.
 #![tactic(auto)]
+
 mod lines;
 mod text;
 
-ghost use Rattle.std.specs.Prelude.{◌≡◌, true, ◌*◌, ◌≤◌, length};
+ghost use Rattle.std.specs.Prelude.{◌≡◌, true, ◌*◌, ◌≤◌, length, IfOk};
 ghost use Rattle.sheet_size.specs.Size.{widest, tallest, within};
 ghost use Rattle.point_darts.specs.Dart.{slots};
 ghost use Rattle.listing.specs.Room.{room};
@@ -13,8 +14,9 @@ use count_turns::turns;
 use deck_card::answer::Read;
 use deck_card::card::LONG;
 use deck_reading::read::CELLS;
-use libc::STDIN_FILENO;
 use point_darts::dart;
+use std::io;
+use std::io::{Input, Write};
 
 // The greatest width.
 const WIDEST: usize = sheet_size::WIDEST as usize;
@@ -179,12 +181,20 @@ fn turn(width: u16, height: u16, tables: Tables) -> Turned
 }
 
 // Lists a drawing. One of a sheet that was read is not refused; were it, there would be no listing.
-fn list_drawing(width: u16, height: u16, sheet: &[u16], slots: usize, names: usize, tables: Tables)
+fn list_drawing<W: Write>(
+    out: &mut W,
+    width: u16,
+    height: u16,
+    sheet: &[u16],
+    slots: usize,
+    names: usize,
+    tables: Tables,
+) -> io::Result<()>
     requires { (slots ≤ room) × (names ≤ room) × (within width height ≡ true) }
 {
     let counted = count(width, height, slots, names, tables);
     if counted.number != 0 {
-        return;
+        return Ok(());
     }
     let turned = turn(width, height, tables);
     let parent = tables.parent;
@@ -195,6 +205,7 @@ fn list_drawing(width: u16, height: u16, sheet: &[u16], slots: usize, names: usi
     let right = turned.right;
     let left = turned.left;
     lines::listing(
+        out,
         width,
         height,
         sheet,
@@ -205,7 +216,7 @@ fn list_drawing(width: u16, height: u16, sheet: &[u16], slots: usize, names: usi
         front(&side1, slots),
         front(&right, slots),
         front(&left, slots),
-    );
+    )
 }
 
 // How many cells a sheet has.
@@ -218,31 +229,46 @@ fn cells_of(width: u16, height: u16) -> usize
 
 // Lists a sheet, whose cells stand at the front of a table. A deck that is read gives a size; were it none, there would be
 // no listing.
-fn list_sheet(width: u16, height: u16, cells: &[u16])
+fn list_sheet<W: Write>(out: &mut W, width: u16, height: u16, cells: &[u16]) -> io::Result<()>
     requires { length cells.now ≡ widest * tallest }
 {
     if !sheet_size::within(width, height) {
-        return;
+        return Ok(());
     }
     let n = cells_of(width, height);
     let names = n + 1;
     let slots = slots_of(width, height);
     let tables = draw(width, height, &cells[..n], slots, names);
-    list_drawing(width, height, &cells[..n], slots, names, tables);
+    list_drawing(out, width, height, &cells[..n], slots, names, tables)
 }
 
 // Lists the sheet of a deck, or says why the deck is refused.
-fn list_deck(deck: &[u8]) {
+fn list_deck<W: Write>(out: &mut W, deck: &[u8]) -> io::Result<()> {
     let mut cells = [0u16; CELLS];
     let answer = deck_reading::read::read(deck, &mut cells);
     match answer {
-        Read::Sheet { width, height } => list_sheet(width, height, &cells),
-        Read::Refused { number, card } => lines::refused(number, card),
+        Read::Sheet { width, height } => list_sheet(out, width, height, &cells),
+        Read::Refused { number, card } => lines::refused(out, number, card),
     }
 }
 
-fn main() {
+// Reads bytes until there is no more room, or no more of them, and answers how many there are.
+fn read_full<R: io::Read>(from: &mut R, bytes: &mut [u8]) -> io::Result<usize>
+    ensures { IfOk result (λ n. n ≤ length bytes.new) }
+{
+    let mut n = 0;
+    while n < bytes.len() {
+        let more = from.read(&mut bytes[n..])?;
+        if more == 0 {
+            return Ok(n);
+        }
+        n += more;
+    }
+    Ok(n)
+}
+
+fn main(rt: HostRuntime) -> io::Result<()> {
     let mut bytes = [0u8; BYTES];
-    let n = io::read_full(STDIN_FILENO, &mut bytes);
-    list_deck(&bytes[..n]);
+    let n = read_full(&mut rt.reader(), &mut bytes)?;
+    list_deck(&mut io::writer(&rt), &bytes[..n])
 }
