@@ -7,11 +7,6 @@ use Rattle.drawing.proofs.Whole.{tops_rising}
 use Rattle.check_call.proofs.Agreeing.{names_part, runs_agreed, curves_no, curves_yes}
 use Rattle.check_call.proofs.agree.curves_agree.Goals as goal
 
-pub keep_points-requires : goal.keep_points-requires
-keep_points-requires c =
-    let s = c.requires in
-    (s.0, s.1, s.3, s.2, s.4)
-
 pub draw_curves-requires : goal.draw_curves-requires
 draw_curves-requires c =
     let q = c.requires in (
@@ -29,10 +24,6 @@ overflow_mul-names c =
 
 pub overflow_add-names : goal.overflow_add-names
 overflow_add-names c =
-    omega (arith, cells_fit _ _ c.requires.0)
-
-pub overflow_cast-names : goal.overflow_cast-names
-overflow_cast-names c =
     omega (arith, cells_fit _ _ c.requires.0)
 
 pub slice_bounds-draw_parents-end : goal.slice_bounds-draw_parents-end

@@ -9,9 +9,6 @@ use Rattle.check_call.proofs.agree.recover_names.Goals as goal
 pub overflow_mul-cells : goal.overflow_mul-cells
 overflow_mul-cells c = omega (arith, cells_fit _ _ c.requires.0)
 
-pub overflow_cast-cells : goal.overflow_cast-cells
-overflow_cast-cells c = omega (arith, cells_fit _ _ c.requires.0)
-
 pub slice_bounds-recover-end : goal.slice_bounds-recover-end
 slice_bounds-recover-end c =
     front_in _ _ c.args.c.now c.requires.4 (cells_part _ _)

@@ -11,9 +11,6 @@ overflow_mul-names c = omega (arith, cells_fit _ _ c.requires.0)
 pub overflow_add-names : goal.overflow_add-names
 overflow_add-names c = omega (arith, cells_fit _ _ c.requires.0)
 
-pub overflow_cast-names : goal.overflow_cast-names
-overflow_cast-names c = omega (arith, cells_fit _ _ c.requires.0)
-
 pub slice_bounds-draw_totals-end : goal.slice_bounds-draw_totals-end
 slice_bounds-draw_totals-end c =
     front_in _ _ c.args.c.now c.requires.4 (names_part _ _)

@@ -1,5 +1,4 @@
 use Prim.Native.Nat.{◌-◌}
-use native.Mathlib.Nat.{mod-le}
 use native.Mathlib.Omega.{arith}
 use Rattle.point_darts.specs.Dart.{mark, dart}
 use Rattle.sheet_size.proofs.Limit.{within_limits}
@@ -28,15 +27,6 @@ label_at-label-requires c =
     let z = (within_limits _ _ c.requires.0).width_some in
     omega (arith, c.leaving.ensures, c.requires.1, recovering_in _ _ _ _ _ _ _ _ c.loop-i.invariant z c.loop-i-test.true)
 
-pub overflow_cast-labels : goal.overflow_cast-labels
-overflow_cast-labels c = omega (arith, cells_fit _ _ c.requires.0)
-
-pub offset_bounds-labels-i : goal.offset_bounds-labels-i
-offset_bounds-labels-i c = omega (arith, cells_fit _ _ c.requires.0)
-
-pub bounds-labels-i : goal.bounds-labels-i
-bounds-labels-i c = omega (arith, c.loop-i.invariant.long)
-
 pub overflow_add-i : goal.overflow_add-i
 overflow_add-i c = omega (arith, cells_fit _ _ c.requires.0)
 
@@ -44,10 +34,6 @@ pub overflow_add-point-in-loop-i : goal.overflow_add-point-in-loop-i
 unfolding mark dart
 overflow_add-point-in-loop-i c =
     omega (arith, recovering_fit _ _ _ _ _ _ _ _ c.loop-i.invariant c.requires.0 c.loop-i-test.true)
-
-pub overflow_add-column : goal.overflow_add-column
-overflow_add-column c =
-    omega (arith, cells_fit _ _ c.requires.0, c.loop-i.invariant.column, mod-le c.loop-i.i c.args.width)
 
 pub overflow_add-point-then-column-width : goal.overflow_add-point-then-column-width
 unfolding mark dart

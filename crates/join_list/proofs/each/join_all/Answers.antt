@@ -37,10 +37,6 @@ pub overflow_mul-n : goal.overflow_mul-n
 overflow_mul-n c =
     omega (arith, cells_fit _ _ c.requires.1.size)
 
-pub overflow_cast-n : goal.overflow_cast-n
-overflow_cast-n c =
-    omega (arith, cells_fit _ _ c.requires.1.size)
-
 pub slice_bounds-regroup-end : goal.slice_bounds-regroup-end
 slice_bounds-regroup-end c =
     front_in _ _ c.args.work_a.now (stated_slots _ _ _ _ c.requires.1.sizes).1.1.1.1.0 (cells_part _ _)

@@ -4,9 +4,9 @@ use Prim.Native.Nat.{◌<◌}
 use native.Mathlib.Omega.{arith}
 use lib.ListN.{length}
 use Rattle.answer.specs.Answer.{number_of}
-use Rattle.join_groups.proofs.Entries.{rest_less, whole_most}
+use Rattle.join_groups.proofs.Entries.{whole_most}
 use Rattle.join_list.proofs.Pairing.{done_none}
-use Rattle.join_list.proofs.Going.{going_start, going_end, going_stops, going_on, found_stated}
+use Rattle.join_list.proofs.Going.{going_end, going_stops, going_on, found_stated}
 use Rattle.join_list.proofs.each.join_each.Goals.{In-loop-rest}
 use Rattle.join_list.proofs.each.join_each.Goals.at as at
 use Rattle.join_list.proofs.each.join_each.Goals as goal
@@ -14,12 +14,6 @@ use Rattle.join_list.proofs.each.join_each.Goals as goal
 -- An entry is left.
 more : (c : In-loop-rest) → 1 < length c.loop-rest.rest.now
 more c = omega (arith, c.loop-rest-test.true)
-
-pub loop-rest-init : goal.loop-rest-init
-loop-rest-init c = going_start _ _ _ _ _ _ c.requires.1
-
-pub join_pair-answer-requires : goal.join_pair-answer-requires
-join_pair-answer-requires c = c.loop-rest.invariant.lent
 
 pub returns-then-number-ne0 : goal.returns-then-number-ne0
 returns-then-number-ne0 c =
@@ -29,9 +23,6 @@ returns-then-number-ne0 c =
 
 pub overflow_add-place : goal.overflow_add-place
 overflow_add-place c = omega (arith, c.loop-rest.invariant.entries.long, whole_most _ _ c.requires.0)
-
-pub loop-rest-smaller : goal.loop-rest-smaller
-loop-rest-smaller c = rest_less c.loop-rest.rest.now (more (at.loop-rest-smaller c).In-loop-rest)
 
 pub loop-rest-preserved : goal.loop-rest-preserved
 loop-rest-preserved c =
