@@ -1,16 +1,13 @@
--- The owners of names, asked one after another, and how many may be lent.
+-- The owners of names, asked one after another.
 --   is_editor e      == e is the number of an editor
 --   owned o         == every name has an owner
 use mathlib.Core.Path.{◌≡◌, refl, sym, ◌∙◌}
-use mathlib.Core.Bool.{Bool, true, false, not, ◌&&◌, ◌||◌}
+use mathlib.Core.Bool.{Bool, true, false, ◌&&◌}
 use mathlib.Core.List.{List}
-use Prim.Native.Nat.{ℕ, ◌+◌, ◌*◌, ◌≤◌, ◌<◌}
-use lib.Dec.{eqb}
+use Prim.Native.Nat.{ℕ, ◌+◌, ◌≤◌, ◌<◌}
 use lib.ListN.{length, get_or, drop}
-use borrow.Author.Tests.{not-true, not-false}
 use Rattle.laws.specs.Every.{every}
 use Rattle.laws.proofs.Every.{every_stop, every_go, every_end}
-use Rattle.sheet_size.specs.Size.{within}
 use Rattle.paper.specs.Editor.{is_editor, owned}
 
 and_on : (b : Bool) → (b && true) ≡ b
@@ -31,19 +28,3 @@ module _ (o : List ℕ) (b : Bool) (i : ℕ) (e : (b && every is_editor (drop i 
 
   pub owned_all : length o ≤ i → b ≡ owned o
   owned_all l = sym (and_on b) ∙ rw (every_end is_editor o i l) at e
-
--- An editor, and the owners.
-module _ (e : ℕ) (o : List ℕ) (b : Bool) (p : b ≡ is_editor e) where
-  pub call_right : b ≡ true → (c : Bool) → c ≡ owned o → c ≡ (is_editor e && owned o)
-  call_right q c r = rw (sym p ∙ q) r
-
-  pub call_wrong : b ≡ false → false ≡ (is_editor e && owned o)
-  call_wrong q = rw (sym p ∙ q)
-
--- How many owners, for a size.
-module _ (w h n : ℕ) (b : Bool) (p : b ≡ within w h) where
-  pub stated_free : not b ≡ true → true ≡ (not (within w h) || eqb n (w * h + 1))
-  stated_free q = rw (sym p ∙ not-true b q)
-
-  pub stated_held : not b ≡ false → eqb n (w * h + 1) ≡ (not (within w h) || eqb n (w * h + 1))
-  stated_held q = rw (sym p ∙ not-false b q)

@@ -12,6 +12,7 @@ use point_darts::dart;
 use table_entries::entry;
 
 // What joining answers to two names, by the parents of the drawing: done where both are regions and differ.
+#[tactic(auto, using(crate::proofs::Naming::named_second_outside), unfolding(answer::specs::Answer::number_of))]
 pub fn check_names(parent: &[u16], a: u16, b: u16) -> Answer
     ensures { number_of result ≡ first_failed (name_tests parent.now a b) }
 {
