@@ -15,6 +15,8 @@ use Rattle.sheet_size.specs.Size.{within}
 use Rattle.paper.specs.Drawing.{Tables, is_drawing}
 use Rattle.paper.specs.Refusal.{stated, work_left, size_tests, given_tests}
 use Rattle.paper.specs.Order.{whole, list_tests}
+use Rattle.answer.specs.declared.Answer.{Answer}
+use Rattle.answer.specs.Answer.{number_of}
 use Rattle.answer.proofs.Outcome.{work_cleared}
 use Rattle.join_answer.specs.Judge.{judged, judged_or}
 
@@ -40,23 +42,38 @@ module _ (k : ℕ) where
   pub early_low : 1 ≤ k → leb k 4 ≡ (leb 1 k && leb k 4)
   early_low l = rw (le-leb 1 k l)
 
--- Where e says whether the number m of the check, which is k, is 1 to 4, and b whether what is judged is right.
-module _ (k m n : ℕ) (e b : Bool) (p : m ≡ k) (q : e ≡ (leb 1 m && leb m 4)) where
+-- Where e says whether the number m of the check, which is k, is 1 to 4, and b whether the list may be lent.
+module _ (k m : ℕ) (e b : Bool) (p : m ≡ k) (q : e ≡ (leb 1 m && leb m 4)) where
   early : e ≡ (leb 1 k && leb k 4)
   early = q ∙ ap (λ n. leb 1 n && leb n 4) p
 
-  pub judged_early : e ≡ true → k ≡ judged_or k b n
-  unfolding judged_or
+  pub judged_early : e ≡ true → k ≡ judged k b
+  unfolding judged
   judged_early f = rw (sym early ∙ f)
 
-  module _ (f : e ≡ false) where
-    pub judged_refused : not b ≡ true → n ≡ judged_or k b n
-    unfolding judged_or
-    judged_refused c = rw (sym early ∙ f, not-true b c)
+  module _ (f : e ≡ false) (c : Bool) (g : c ≡ b) where
+    pub judged_list : not c ≡ true → number_of Answer.List ≡ judged k b
+    unfolding judged number_of
+    judged_list n = rw (sym early ∙ f, sym g ∙ not-true c n)
 
-    pub judged_on : not b ≡ false → k ≡ judged_or k b n
+    pub judged_on : not c ≡ false → k ≡ judged k b
+    unfolding judged
+    judged_on n = rw (sym early ∙ f, sym g ∙ not-false c n)
+
+-- The same where b says whether what is judged is right, and else the number is n.
+module _ (k m n : ℕ) (e b : Bool) (p : m ≡ k) (q : e ≡ (leb 1 m && leb m 4)) where
+  pub judged_or_early : e ≡ true → k ≡ judged_or k b n
+  unfolding judged_or
+  judged_or_early f = rw (sym (early k m e b p q) ∙ f)
+
+  module _ (f : e ≡ false) where
+    pub judged_or_refused : not b ≡ true → n ≡ judged_or k b n
     unfolding judged_or
-    judged_on c = rw (sym early ∙ f, not-false b c)
+    judged_or_refused c = rw (sym (early k m e b p q) ∙ f, not-true b c)
+
+    pub judged_or_on : not b ≡ false → k ≡ judged_or k b n
+    unfolding judged_or
+    judged_or_on c = rw (sym (early k m e b p q) ∙ f, not-false b c)
 
 -- What tells that it is right may be told in another way.
 pub judged_told : (r k n : ℕ) (b c : Bool) → r ≡ judged_or k b n → b ≡ c → r ≡ judged_or k c n

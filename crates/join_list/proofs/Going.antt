@@ -1,7 +1,7 @@
 -- Going through a list, entry by entry.
 --   Going w h l t b m u c n r i == after i entries of the list l, which led from the drawing t and the work tables b and m to the
 --                      drawing u and the work tables c and n, the names r are left
-use mathlib.Core.Path.{◌≡◌, sym, ◌∙◌}
+use mathlib.Core.Path.{◌≡◌, refl, sym, ◌∙◌}
 use mathlib.Core.Bool.{true}
 use mathlib.Core.List.{List}
 use mathlib.Core.Logic.{◌≢◌}
@@ -30,6 +30,14 @@ pub record Going (w h : ℕ) (l : List ℕ) (t : Tables) (b m : List ℕ) (u : T
   pub left : Left w h i t b m u c n
 
 module _ (w h : ℕ) (l : List ℕ) (t : Tables) (b m : List ℕ) where
+  pub going_start : Open w h t (pair b m) → Going w h l t b m t b m l 0
+  going_start o =
+      record {
+        entries = Entries.going_start w h l t;
+        lent = o;
+        left = record { none = λ z. (refl, refl, refl); some = λ n. absurd (n refl) };
+      }
+
   module _ (u : Tables) (c n r : List ℕ) (i : ℕ) (g : Going w h l t b m u c n r i) where
     -- past the last entry
     pub going_end : length r ≤ 1 → stop 0 i u ≡ joins w h 0 (pairs l) t
