@@ -1,4 +1,4 @@
-ghost use Rattle.std.specs.Prelude.{◌≡◌, ◌≤◌, length, IfOk};
+ghost use Rattle.std.specs.Prelude.{◌≡◌, ◌≤◌, length, IfOk, IfErr};
 ghost use Rattle.io.specs.Counts.{IsPrefixLen};
 
 use std::env::Env;
@@ -48,12 +48,14 @@ fn read_argument<R: Files + Eprint>(
     }
 }
 
-// Reads the files that the program's arguments name, one after another, and answers how many bytes they have.
+// Reads the files that the program's arguments name, one after another, and answers how many bytes they have. An error, which is
+// the system's or that of memory, leaves some of the bytes read.
 pub fn read_all<R: Files + Env + Eprint + AllocGlobal>(
     rt: &R,
     bytes: &mut [u8],
 ) -> io::Result<usize>
-    ensures { IfOk result (λ n. IsPrefixLen n bytes.new) }
+    ensures ok { IfOk result (λ n. IsPrefixLen n bytes.new) }
+    ensures err { IfErr result (λ e. length bytes.new ≡ length bytes.old) }
 {
     let mut end = 0;
     for name in env::args(rt)?.skip(1) {
