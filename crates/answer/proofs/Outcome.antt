@@ -11,8 +11,11 @@ use native.Mathlib.Omega.{arith}
 use lib.Dec.{eqb}
 use borrow.Author.Tests.{lt-ltb, le-ltb}
 use Rattle.paper.specs.Refusal.{Outcome, ended, work_left, outcome, cleared}
-use Rattle.answer.specs.declared.Answer.{Answer}
-use Rattle.answer.specs.Answer.{number_of, told}
+use Rattle.std.specs.Prelude.{Result, Ok, Err}
+use Rattle.std.specs.Result.{IsErrAnd}
+use Rattle.std.proofs.lemmas.Result.{err_from_is_err_and}
+use Rattle.answer.specs.declared.Refusal.{Refusal}
+use Rattle.answer.specs.Answer.{refusal_number, number_of, told}
 
 -- refusals 1 to 4 leave the work tables
 pub work_kept : (k : ℕ) (ws : List (List ℕ)) → k ≢ 0 → k < 5 → work_left k ws ≡ ws
@@ -59,7 +62,7 @@ module _ (k : ℕ) (vs : List ℕ) (ts us ws : List (List ℕ)) where
   outcome_done e zs xs p q = rw (e, p, q)
 
 -- An answer of a number.
-module _ (r : Answer) (k : ℕ) (e : number_of r ≡ k) where
+module _ (r : Result (Unit {0}) Refusal) (k : ℕ) (e : number_of r ≡ k) where
   pub told_refused : number_of r ≢ 0 → (vs : List ℕ) (ts us ws xs : List (List ℕ)) → xs ≡ work_left k ws
       → told r ts xs ≡ outcome k vs ts us ws
   unfolding told
@@ -83,6 +86,30 @@ module _ (r : Answer) (k : ℕ) (e : number_of r ≡ k) where
       by zero p = rw p
       by (suc k) p = rw p
 
+-- No refusal has the number of done.
+pub refusal_some : (x : Refusal) → refusal_number x ≢ 0
+refusal_some Refusal.Size e = omega (arith, e)
+refusal_some Refusal.Level e = omega (arith, e)
+refusal_some Refusal.Sheet e = omega (arith, e)
+refusal_some Refusal.Tables e = omega (arith, e)
+refusal_some Refusal.Drawing e = omega (arith, e)
+refusal_some Refusal.Outside e = omega (arith, e)
+refusal_some Refusal.Equal e = omega (arith, e)
+refusal_some Refusal.Name e = omega (arith, e)
+refusal_some Refusal.Apart e = omega (arith, e)
+refusal_some Refusal.Owner e = omega (arith, e)
+refusal_some Refusal.Editor e = omega (arith, e)
+refusal_some Refusal.List e = omega (arith, e)
+
+-- A refusal that a call hands on: r refuses x, and so does q.
+module _ (r q : Result (Unit {0}) Refusal) (x : Refusal) (e : r ≡ Err x) (i : IsErrAnd q (λ y. y ≡ x)) where
+  pub handed_on : (number_of r ≢ 0) × (q ≡ r)
+  unfolding number_of
+  handed_on = let p = err_from_is_err_and q i in (rw e (refusal_some x), p.1 ∙ ap Err p.2 ∙ sym e)
+
+  pub told_on : (ts ws : List (List ℕ)) (o : Outcome) → (number_of r ≢ 0 → told r ts ws ≡ o) → told q ts ws ≡ o
+  told_on ts ws o f = rw handed_on.1 (f handed_on.0)
+
 -- One outcome has one number, one list of values, one of tables and one of work tables.
 pub ended_one : (k n : ℕ) (vs us : List ℕ) (ts xs ws ys : List (List ℕ)) → ended k vs ts ws ≡ ended n us xs ys
     → (k ≡ n) × (vs ≡ us) × (ts ≡ xs) × (ws ≡ ys)
@@ -94,42 +121,42 @@ ended_one k n vs us ts xs ws ys e = (
 )
 
 -- The number tells the answer, so one outcome is one answer.
-answer_of : ℕ → Answer
+answer_of : ℕ → Result (Unit {0}) Refusal
 answer_of n =
-    cond (eqb n 0) Answer.Done
-    (cond (eqb n 1) Answer.Size
-    (cond (eqb n 2) Answer.Level
-    (cond (eqb n 3) Answer.Sheet
-    (cond (eqb n 4) Answer.Tables
-    (cond (eqb n 5) Answer.Drawing
-    (cond (eqb n 6) Answer.Outside
-    (cond (eqb n 7) Answer.Equal
-    (cond (eqb n 8) Answer.Name
-    (cond (eqb n 9) Answer.Apart
-    (cond (eqb n 10) Answer.Owner
-    (cond (eqb n 11) Answer.Editor
-    Answer.List)))))))))))
+    cond (eqb n 0) (Ok tt)
+    (cond (eqb n 1) (Err Refusal.Size)
+    (cond (eqb n 2) (Err Refusal.Level)
+    (cond (eqb n 3) (Err Refusal.Sheet)
+    (cond (eqb n 4) (Err Refusal.Tables)
+    (cond (eqb n 5) (Err Refusal.Drawing)
+    (cond (eqb n 6) (Err Refusal.Outside)
+    (cond (eqb n 7) (Err Refusal.Equal)
+    (cond (eqb n 8) (Err Refusal.Name)
+    (cond (eqb n 9) (Err Refusal.Apart)
+    (cond (eqb n 10) (Err Refusal.Owner)
+    (cond (eqb n 11) (Err Refusal.Editor)
+    (Err Refusal.List))))))))))))
 
-answer_of_lem : (r : Answer) → answer_of (number_of r) ≡ r
+answer_of_number : (r : Result (Unit {0}) Refusal) → answer_of (number_of r) ≡ r
 unfolding answer_of number_of
-answer_of_lem Answer.Done = refl
-answer_of_lem Answer.Size = refl
-answer_of_lem Answer.Level = refl
-answer_of_lem Answer.Sheet = refl
-answer_of_lem Answer.Tables = refl
-answer_of_lem Answer.Drawing = refl
-answer_of_lem Answer.Outside = refl
-answer_of_lem Answer.Equal = refl
-answer_of_lem Answer.Name = refl
-answer_of_lem Answer.Apart = refl
-answer_of_lem Answer.Owner = refl
-answer_of_lem Answer.Editor = refl
-answer_of_lem Answer.List = refl
+answer_of_number (Ok done) = refl
+answer_of_number (Err Refusal.Size) = refl
+answer_of_number (Err Refusal.Level) = refl
+answer_of_number (Err Refusal.Sheet) = refl
+answer_of_number (Err Refusal.Tables) = refl
+answer_of_number (Err Refusal.Drawing) = refl
+answer_of_number (Err Refusal.Outside) = refl
+answer_of_number (Err Refusal.Equal) = refl
+answer_of_number (Err Refusal.Name) = refl
+answer_of_number (Err Refusal.Apart) = refl
+answer_of_number (Err Refusal.Owner) = refl
+answer_of_number (Err Refusal.Editor) = refl
+answer_of_number (Err Refusal.List) = refl
 
-pub number_one : (r q : Answer) → number_of r ≡ number_of q → r ≡ q
-number_one r q e = sym (answer_of_lem r) ∙ ap answer_of e ∙ answer_of_lem q
+pub number_one : (r q : Result (Unit {0}) Refusal) → number_of r ≡ number_of q → r ≡ q
+number_one r q e = sym (answer_of_number r) ∙ ap answer_of e ∙ answer_of_number q
 
-pub told_one : (r q : Answer) (ts us ws xs : List (List ℕ)) → told r ts ws ≡ told q us xs
+pub told_one : (r q : Result (Unit {0}) Refusal) (ts us ws xs : List (List ℕ)) → told r ts ws ≡ told q us xs
     → (r ≡ q) × (ts ≡ us) × (ws ≡ xs)
 unfolding told
 told_one r q ts us ws xs e =

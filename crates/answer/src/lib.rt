@@ -2,12 +2,11 @@
 #![tactic(auto)]
 
 ghost use Rattle.std.specs.Prelude.{◌≡◌};
-ghost use Rattle.answer.specs.Answer.{number_of};
+ghost use Rattle.answer.specs.Answer.{refusal_number, number_of};
 
-// What a call answers: done, or what is refused.
-#[derive(Clone, Copy)]
-pub enum Answer {
-    Done,
+// What is refused.
+#[derive(Clone, Copy, Debug, PartialEq, Eq)]
+pub enum Refusal {
     // The width or the height is not 1 to the greatest.
     Size,
     // The level is above 3.
@@ -34,25 +33,35 @@ pub enum Answer {
     List,
 }
 
-impl Answer {
-    // The number of the refusal, 0 for done.
-    pub fn number(self) -> u16
-        ensures { result ≡ number_of self }
-    {
-        match self {
-            Answer::Done => 0,
-            Answer::Size => 1,
-            Answer::Level => 2,
-            Answer::Sheet => 3,
-            Answer::Tables => 4,
-            Answer::Drawing => 5,
-            Answer::Outside => 6,
-            Answer::Equal => 7,
-            Answer::Name => 8,
-            Answer::Apart => 9,
-            Answer::Owner => 10,
-            Answer::Editor => 11,
-            Answer::List => 12,
+// The number of a refusal.
+impl From<Refusal> for u16 {
+    ghost from_gives = { λ refusal number. number ≡ refusal_number refusal };
+
+    fn from(refusal: Refusal) -> u16 {
+        match refusal {
+            Refusal::Size => 1,
+            Refusal::Level => 2,
+            Refusal::Sheet => 3,
+            Refusal::Tables => 4,
+            Refusal::Drawing => 5,
+            Refusal::Outside => 6,
+            Refusal::Equal => 7,
+            Refusal::Name => 8,
+            Refusal::Apart => 9,
+            Refusal::Owner => 10,
+            Refusal::Editor => 11,
+            Refusal::List => 12,
         }
+    }
+}
+
+// The number that an answer tells: 0 where nothing is refused, else that of the refusal.
+#[tactic(auto, unfolding(crate::specs::Answer::number_of))]
+pub fn number<T: Copy>(answer: Result<T, Refusal>) -> u16
+    ensures { result ≡ number_of answer }
+{
+    match answer {
+        Ok(_) => 0,
+        Err(refusal) => refusal.into(),
     }
 }

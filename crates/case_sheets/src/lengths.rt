@@ -1,4 +1,4 @@
-ghost use Rattle.case_sheets.specs.Room.{Fits};
+ghost use Rattle.case_sheets.specs.Room.{WorksFit, Fits};
 
 use crate::lent;
 
@@ -7,6 +7,15 @@ use crate::lent;
 pub struct Size {
     pub width: u16,
     pub height: u16,
+}
+
+// How long the four work tables of a case are.
+#[derive(Clone, Copy)]
+pub struct WorkLengths {
+    pub a: usize,
+    pub b: usize,
+    pub c: usize,
+    pub d: usize,
 }
 
 // How long the seven tables and the four work tables of a case are.
@@ -19,10 +28,19 @@ pub struct Lengths {
     pub parent: usize,
     pub cells: usize,
     pub borders: usize,
-    pub a: usize,
-    pub b: usize,
-    pub c: usize,
-    pub d: usize,
+    pub works: WorkLengths,
+}
+
+// The lengths of work tables that a list gives.
+pub fn works(lengths: &[u16]) -> WorkLengths
+    ensures { WorksFit result }
+{
+    WorkLengths {
+        a: lent::length(lengths, 0),
+        b: lent::length(lengths, 1),
+        c: lent::length(lengths, 2),
+        d: lent::length(lengths, 3),
+    }
 }
 
 // The lengths that a list gives.
@@ -37,10 +55,7 @@ pub fn given(lengths: &[u16]) -> Lengths
         parent: lent::length(lengths, 4),
         cells: lent::length(lengths, 5),
         borders: lent::length(lengths, 6),
-        a: lent::length(lengths, 7),
-        b: lent::length(lengths, 8),
-        c: lent::length(lengths, 9),
-        d: lent::length(lengths, 10),
+        works: works(lent::from(lengths, 7)),
     }
 }
 

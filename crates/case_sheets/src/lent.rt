@@ -1,5 +1,4 @@
 ghost use Rattle.std.specs.Prelude.{◌≤◌, ◌<◌, length};
-ghost use Rattle.io.specs.Counts.{IsPrefixLen};
 ghost use Rattle.case_sheets.specs.Room.{room};
 
 // How long a table of a program can be: a few entries more than the greatest number of slots.
@@ -8,15 +7,11 @@ pub const ROOM: usize = 32416;
 // What a table holds before a call.
 pub const UNTOUCHED: u16 = 7;
 
-// A length, or that of the table where it is more.
-pub fn most(length: usize, table: &[u16]) -> usize
-    ensures { IsPrefixLen result table.now }
+// A count, or the length of the table where it is more.
+pub fn most<T>(count: usize, table: &[T]) -> usize
+    ensures { result ≤ length table.now }
 {
-    if length < table.len() {
-        length
-    } else {
-        table.len()
-    }
+    count.min(table.len())
 }
 
 // The product of two numbers up to 65,536.
@@ -41,10 +36,7 @@ pub fn names(width: u16, height: u16) -> u16 {
 
 // A count, or 65535 where it is more.
 fn limited(count: usize) -> u16 {
-    if count < 65535 {
-        return count as u16;
-    }
-    65535
+    count.min(65535) as u16
 }
 
 // The number of slots of a sheet, or 65535 where it is more.
@@ -54,58 +46,34 @@ pub fn slots(width: u16, height: u16) -> u16 {
 
 // The entries of a table from a place on; none where the place is past the end.
 pub fn from(table: &[u16], place: usize) -> &[u16] {
-    if place < table.len() {
-        return &table[place..];
-    }
-    &table[..0]
+    &table[most(place, table)..]
 }
 
 // The entries of a table from a place up to another, or those of them that it has.
 pub fn part(table: &[u16], start: usize, end: usize) -> &[u16] {
-    let n = most(end, table);
-    from(&table[..n], start)
+    from(&table[..most(end, table)], start)
 }
 
 // The length at a place of a list of lengths, or the greatest that there is room for.
 pub fn length(lengths: &[u16], place: usize) -> usize
     ensures { result ≤ room }
 {
-    if place < lengths.len() {
-        return roomy(lengths[place]);
+    match lengths.get(place) {
+        Some(length) => ROOM.min(*length as usize),
+        None => 0,
     }
-    0
-}
-
-// A length, or the greatest that there is room for.
-fn roomy(length: u16) -> usize
-    ensures { result ≤ room }
-{
-    let length = length as usize;
-    if length < ROOM { length } else { ROOM }
 }
 
 // Copies the entries of a table to the front of another, as many as both have.
 pub fn copy(table: &[u16], to: &mut [u16]) {
-    let mut i = 0;
-    while i < to.len() {
-        if table.len() <= i {
-            return;
-        }
-        to[i] = table[i];
-        i += 1;
+    for (to, entry) in to.iter_mut().zip(table) {
+        *to = *entry;
     }
 }
 
 // Whether each entry is a value.
 pub fn all_are(table: &[u16], value: u16) -> bool {
-    let mut i = 0;
-    while i < table.len() {
-        if table[i] != value {
-            return false;
-        }
-        i += 1;
-    }
-    true
+    table.iter().all(|entry| *entry == value)
 }
 
 // A sum with one entry more.
@@ -118,11 +86,9 @@ fn summed(sum: u64, entry: u16) -> u64
 
 // A number that a table with another entry hardly has too.
 pub fn sum(table: &[u16]) -> u64 {
-    let mut sum: u64 = 0;
-    let mut i = 0;
-    while i < table.len() {
-        sum = summed(sum, table[i]);
-        i += 1;
+    let mut sum = 0;
+    for entry in table {
+        sum = summed(sum, *entry);
     }
     sum
 }

@@ -5,32 +5,17 @@ use crate::lent;
 
 // Every cell differs from every other: the label of a cell is its name.
 fn different(sheet: &mut [u16]) {
-    let mut label: u16 = 1;
-    let mut i = 0;
-    while i < sheet.len() {
-        sheet[i] = label;
-        label = after(label);
-        i += 1;
+    let mut label: u16 = 0;
+    for cell in sheet.iter_mut() {
+        label = label.wrapping_add(1);
+        *cell = label;
     }
-}
-
-// The label after a label, 0 after the last.
-fn after(label: u16) -> u16 {
-    if label < 65535 {
-        return label + 1;
-    }
-    0
-}
-
-// The smaller of two numbers.
-fn least(a: usize, b: usize) -> usize {
-    if a < b { a } else { b }
 }
 
 // How many places lie on either side of a place among so many, on the side where they are fewer.
 fn inward(place: usize, count: usize) -> usize {
     if place < count {
-        return least(place, count - 1 - place);
+        return place.min(count - 1 - place);
     }
     0
 }
@@ -40,21 +25,21 @@ fn square(i: usize, width: usize, height: usize) -> u16 {
     if width == 0 {
         return 0;
     }
-    (least(inward(i % width, width), inward(i / width, height)) % 65536) as u16
+    let across = inward(i % width, width);
+    let down = inward(i / width, height);
+    (across.min(down) % 65536) as u16
 }
 
 // Squares round one another.
 fn squares(width: u16, height: u16, sheet: &mut [u16]) {
-    let mut i = 0;
-    while i < sheet.len() {
-        sheet[i] = square(i, width as usize, height as usize);
-        i += 1;
+    for (i, cell) in sheet.iter_mut().enumerate() {
+        *cell = square(i, width as usize, height as usize);
     }
 }
 
 // The next state of a linear congruential rule.
 fn following(state: u16) -> u16 {
-    ((state as u32 * 25173 + 13849) % 65536) as u16
+    state.wrapping_mul(25173).wrapping_add(13849)
 }
 
 // One of so many labels, by the upper half of a state.
@@ -68,30 +53,21 @@ fn chosen(state: u16, labels: u16) -> u16 {
 // So many labels by chance, decided by a seed.
 fn chance(seed: u16, labels: u16, sheet: &mut [u16]) {
     let mut state = seed;
-    let mut i = 0;
-    while i < sheet.len() {
+    for cell in sheet.iter_mut() {
         state = following(state);
-        sheet[i] = chosen(state, labels);
-        i += 1;
+        *cell = chosen(state, labels);
     }
 }
 
 // Fills a sheet by the rule of a letter: D for cells that all differ, S for squares, C for chance, which takes a seed and a
 // number of labels from the values. For any other letter the values are the labels.
 fn fill(kind: u8, width: u16, height: u16, values: &[u16], sheet: &mut [u16]) {
-    if kind == b'D' {
-        different(sheet);
-        return;
+    match kind {
+        b'D' => different(sheet),
+        b'S' => squares(width, height, sheet),
+        b'C' => by_chance(values, sheet),
+        _ => lent::copy(values, sheet),
     }
-    if kind == b'S' {
-        squares(width, height, sheet);
-        return;
-    }
-    if kind == b'C' {
-        by_chance(values, sheet);
-        return;
-    }
-    lent::copy(values, sheet);
 }
 
 // Labels by chance, from a seed and a number of labels.

@@ -1,12 +1,12 @@
 use crate::show;
-use case_sheets::lengths::Lengths;
+use answer::Refusal;
+use case_sheets::lengths::{Lengths, WorkLengths};
 use case_sheets::lent;
 use std::io;
 use std::io::Write;
-use table_entries::entry;
 
 // The seven tables of a drawing, each with room for the longest.
-#[derive(Clone, Copy)]
+#[derive(Clone, Copy, PartialEq, Eq)]
 pub struct Tables {
     pub next1: [u16; lent::ROOM],
     pub side1: [u16; lent::ROOM],
@@ -26,12 +26,41 @@ pub struct Works {
     pub d: [u16; lent::ROOM],
 }
 
-// What a call answered: its number, and the tables after it.
+// What a call answered, and the tables after it.
 #[derive(Clone, Copy)]
 pub struct Answered {
-    pub number: u16,
+    pub answer: Result<(), Refusal>,
     pub tables: Tables,
     pub works: Works,
+}
+
+impl Tables {
+    // Tables that no call has touched.
+    pub fn untouched() -> Tables {
+        let table = [lent::UNTOUCHED; lent::ROOM];
+        Tables {
+            next1: table,
+            side1: table,
+            next3: table,
+            other3: table,
+            parent: table,
+            cells: table,
+            borders: table,
+        }
+    }
+}
+
+impl Works {
+    // Work tables that no call has touched, and that are not clear.
+    pub fn untouched() -> Works {
+        let table = [lent::UNTOUCHED; lent::ROOM];
+        Works {
+            a: table,
+            b: table,
+            c: table,
+            d: table,
+        }
+    }
 }
 
 // The entries of a table up to a length.
@@ -63,17 +92,6 @@ pub fn given(lengths: &[u16], list: &[u16]) -> Tables {
         cells: filled(lent::from(list, c)),
         borders: filled(lent::from(list, b)),
     }
-}
-
-// Whether seven tables are the same as seven others.
-pub fn same(tables: &Tables, others: &Tables) -> bool {
-    entry::same(&tables.next1, &others.next1)
-        & entry::same(&tables.side1, &others.side1)
-        & entry::same(&tables.next3, &others.next3)
-        & entry::same(&tables.other3, &others.other3)
-        & entry::same(&tables.parent, &others.parent)
-        & entry::same(&tables.cells, &others.cells)
-        & entry::same(&tables.borders, &others.borders)
 }
 
 // Writes the seven tables of a drawing, in full or by their sums.
@@ -119,26 +137,40 @@ fn clear(table: &[u16; lent::ROOM], length: usize) -> bool {
 }
 
 // Whether the work tables are 0 up to their lengths.
-fn cleared(a: usize, b: usize, c: usize, d: usize, works: &Works) -> bool {
-    clear(&works.a, a) & clear(&works.b, b) & clear(&works.c, c) & clear(&works.d, d)
+fn cleared(lengths: WorkLengths, works: &Works) -> bool {
+    clear(&works.a, lengths.a)
+        & clear(&works.b, lengths.b)
+        & clear(&works.c, lengths.c)
+        & clear(&works.d, lengths.d)
 }
 
-// Writes whether the work tables of a call, which have these lengths, are as they were, for the refusals 1 to 4, and else
+// Writes whether the work tables of a call, which have these lengths, are as they were, where what was lent is refused, and else
 // whether they are all 0.
-pub fn show_works<W: Write>(
+pub fn show_works<W: Write, T: Copy>(
     out: &mut W,
-    number: u16,
-    a: usize,
-    b: usize,
-    c: usize,
-    d: usize,
+    answer: Result<T, Refusal>,
+    lengths: WorkLengths,
     works: &Works,
 ) -> io::Result<()> {
-    if number == 0 {
-        return show::cleared(out, cleared(a, b, c, d, works));
+    match answer {
+        Err(Refusal::Size | Refusal::Level | Refusal::Sheet | Refusal::Tables) => {
+            show::kept(out, kept(works))
+        }
+        _ => show::cleared(out, cleared(lengths, works)),
     }
-    if 4 < number {
-        return show::cleared(out, cleared(a, b, c, d, works));
+}
+
+// Writes what a join answered: its number, of a refusal whether the seven tables are as they were before, and how the work tables
+// are left.
+pub fn show_joined<W: Write>(
+    out: &mut W,
+    lengths: Lengths,
+    before: &Tables,
+    joined: &Answered,
+) -> io::Result<()> {
+    show::number(out, answer::number(joined.answer))?;
+    if joined.answer.is_err() {
+        show::kept(out, *before == joined.tables)?;
     }
-    show::kept(out, kept(works))
+    show_works(out, joined.answer, lengths.works, &joined.works)
 }

@@ -10,48 +10,22 @@
 
 mod tried;
 
-use case_files::{file, text};
+use case_files::{cases, text};
 use std::io;
-use std::io::{BufWriter, Write};
+use std::io::Write;
 
-// How many bytes wait before they are written out.
-const PAGE: usize = 65536;
-
-// Runs the case of a line.
-fn run<W: Write>(out: &mut W, line: &[u8]) -> io::Result<()> {
-    if line.len() == 0 {
-        return Ok(());
-    }
-    let kind = line[0];
-    let first = text::number(line, 2);
+// Runs a case.
+fn run<W: Write>(out: &mut W, kind: u8, line: &[u8]) -> io::Result<()> {
+    let first = text::number(line, 0);
     let rest = text::after(line, first.next);
-    if kind == b'R' {
-        return tried::read(out, rest, first.value as usize);
+    match kind {
+        b'R' => tried::read(out, rest, first.value as usize),
+        b'P' => tried::part(out, rest, (first.value % 65536) as u16),
+        b'W' => tried::write(out, rest, first.value),
+        _ => Ok(()),
     }
-    if kind == b'P' {
-        return tried::part(out, rest, (first.value % 65536) as u16);
-    }
-    if kind == b'W' {
-        return tried::write(out, rest, first.value);
-    }
-    Ok(())
-}
-
-// Runs the case of each line.
-fn run_all<W: Write>(out: &mut W, cases: &[u8]) -> io::Result<()> {
-    let mut at = 0;
-    while at < cases.len() {
-        let line = text::line(cases, at);
-        run(out, line)?;
-        at += line.len() + 1;
-    }
-    Ok(())
 }
 
 fn main(rt: HostRuntime) -> io::Result<()> {
-    let mut bytes = file::room();
-    let n = file::read_all(&rt, &mut bytes)?;
-    let mut out = BufWriter::with_capacity(rt.alloc(), PAGE, io::writer(&rt))?;
-    run_all(&mut out, &bytes[..n])?;
-    out.flush()
+    cases::run(&rt, |out, kind, line| run(out, kind, line))
 }

@@ -4,7 +4,8 @@ ghost use Rattle.io.specs.Counts.{IsPrefixLen};
 use case_files::text;
 use case_sheets::lent;
 use case_tables::show;
-use deck_card::answer::{Read, Written};
+use deck_card::answer::{ReadRefusal, WriteRefusal, part_number, write_number};
+use sheet_size::Size;
 use std::io;
 use std::io::Write;
 
@@ -29,81 +30,72 @@ fn untouched() -> [u16; 7921]
 fn most_bytes(length: usize, bytes: &[u8]) -> usize
     ensures { IsPrefixLen result bytes.now }
 {
-    if length < bytes.len() {
-        length
-    } else {
-        bytes.len()
-    }
+    length.min(bytes.len())
 }
 
 // How many entries stand before the first 0.
 fn used(cells: &[u16]) -> usize
     ensures { IsPrefixLen result cells.now }
 {
-    let mut i = 0;
-    while i < cells.len() {
-        if cells[i] == 0 {
-            return i;
-        }
-        i += 1;
-    }
-    i
+    cells
+        .iter()
+        .position(|cell| *cell == 0)
+        .unwrap_or(cells.len())
 }
 
 // Reads a deck into the first entries of a table.
-fn read_into(deck: &[u8], length: usize, cells: &mut [u16]) -> Read {
+fn read_into(deck: &[u8], length: usize, cells: &mut [u16]) -> Result<Size, ReadRefusal> {
     let n = lent::most(length, cells);
     deck_reading::read::read(deck, &mut cells[..n])
 }
 
 // Writes a sheet into the first of the bytes.
-fn write_into(width: u16, height: u16, sheet: &[u16], length: usize, bytes: &mut [u8]) -> Written {
+fn write_into(
+    width: u16,
+    height: u16,
+    sheet: &[u16],
+    length: usize,
+    bytes: &mut [u8],
+) -> Result<(), WriteRefusal> {
     let n = most_bytes(length, bytes);
     deck_writing::write::write(width, height, sheet, &mut bytes[..n])
 }
 
 // Whether the sheet's deck, written again, is the deck.
-fn show_again<W: Write>(
-    out: &mut W,
-    width: u16,
-    height: u16,
-    sheet: &[u16],
-    deck: &[u8],
-) -> io::Result<()> {
+fn show_again<W: Write>(out: &mut W, size: Size, sheet: &[u16], deck: &[u8]) -> io::Result<()> {
     let mut again = dots();
-    let answer = write_into(width, height, sheet, deck.len(), &mut again);
-    show::label(out, answer.number())?;
+    let answer = write_into(size.width, size.height, sheet, deck.len(), &mut again);
+    show::number(out, write_number(answer))?;
     let n = most_bytes(deck.len(), &again);
     show::kept(out, check::same(&again[..n], deck))
 }
 
 // The labels of a sheet that was read, whether the rest of the table is 0, and whether its deck is the same again.
-fn show_sheet<W: Write>(
-    out: &mut W,
-    width: u16,
-    height: u16,
-    cells: &[u16],
-    deck: &[u8],
-) -> io::Result<()> {
+fn show_sheet<W: Write>(out: &mut W, size: Size, cells: &[u16], deck: &[u8]) -> io::Result<()> {
     let n = used(cells);
     let sheet = &cells[..n];
-    show::labels(out, sheet)?;
+    show::numbers(out, sheet)?;
     show::kept(out, lent::all_are(&cells[n..], 0))?;
-    show_again(out, width, height, sheet, deck)
+    show_again(out, size, sheet, deck)
 }
 
 // What reading answered, and what the table holds.
-fn show_answer<W: Write>(out: &mut W, answer: Read, deck: &[u8], cells: &[u16]) -> io::Result<()> {
+fn show_answer<W: Write>(
+    out: &mut W,
+    answer: Result<Size, ReadRefusal>,
+    deck: &[u8],
+    cells: &[u16],
+) -> io::Result<()> {
     match answer {
-        Read::Sheet { width, height } => {
-            show::label(out, 0)?;
-            show::label(out, width)?;
-            show::label(out, height)?;
-            show_sheet(out, width, height, cells, deck)?;
+        Ok(size) => {
+            show::number(out, 0)?;
+            show::number(out, size.width)?;
+            show::number(out, size.height)?;
+            show_sheet(out, size, cells, deck)?;
         }
-        Read::Refused { number, card } => {
-            show::label(out, number)?;
-            show::label(out, card)?;
+        Err(refusal) => {
+            show::number(out, u16::from(refusal.fault))?;
+            show::number(out, refusal.card)?;
             show::kept(out, lent::all_are(cells, UNTOUCHED))?;
         }
     }
@@ -128,8 +120,8 @@ pub(crate) fn read<W: Write>(out: &mut W, line: &[u8], length: usize) -> io::Res
 
 // The part of a card that holds its cells.
 fn show_part<W: Write>(out: &mut W, width: u16, card: &[u8]) -> io::Result<()> {
-    show::label(out, deck_card::card::part_refusal(width, card))?;
-    show::bytes(out, deck_card::card::part(width, card))?;
+    show::number(out, part_number(deck_card::card::part_refusal(width, card)))?;
+    show::numbers(out, deck_card::card::part(width, card))?;
     show::line_end(out)
 }
 
@@ -151,7 +143,7 @@ fn show_written<W: Write>(
 ) -> io::Result<()> {
     let mut bytes = dots();
     let answer = write_into(width, height, sheet, length, &mut bytes);
-    show::label(out, answer.number())?;
+    show::number(out, write_number(answer))?;
     show::line_end(out)?;
     let n = most_bytes(length, &bytes);
     show::text(out, &bytes[..n])?;

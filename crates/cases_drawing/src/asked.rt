@@ -1,79 +1,64 @@
 ghost use Rattle.std.specs.Prelude.{◌≤◌};
 ghost use Rattle.case_sheets.specs.Room.{room, Fits};
 
+use answer::Refusal;
 use case_sheets::lengths::{Lengths, Size};
 use case_sheets::lent;
 use case_tables::tables::{Tables, Works};
 use case_tables::{show, tables};
 use check_call::check;
-use count_answer::Count;
 use count_call::{count, turns};
 use point_darts::dart;
 use std::io;
 use std::io::Write;
 
-// What the check answered: its number, and the work tables after it.
+// What a call answered, and the work tables after it.
 #[derive(Clone, Copy)]
-pub struct Checked {
-    pub number: u16,
+pub struct Answered<T> {
+    pub answer: Result<T, Refusal>,
     pub works: Works,
 }
 
-// What a call that fills two tables answered: the number, and the tables after it.
+// What a call that fills two tables answered, and the tables after it.
 #[derive(Clone, Copy)]
 pub struct Filled {
-    pub number: u16,
+    pub answer: Result<(), Refusal>,
     pub first: [u16; lent::ROOM],
     pub second: [u16; lent::ROOM],
     pub works: Works,
 }
 
-// What the count of a name answered: the number, the count, which is the mark for a refusal, and the work tables after it.
-#[derive(Clone, Copy)]
-pub struct Counted {
-    pub number: u16,
-    pub count: u16,
-    pub works: Works,
-}
-
 // Asks the check of tables of these lengths, with work tables that are not clear.
-fn check_of(size: Size, lengths: Lengths, tables: &Tables) -> Checked
+fn check_of(size: Size, lengths: Lengths, tables: &Tables) -> Answered<()>
     requires { Fits lengths }
 {
-    let ka = lengths.a;
-    let kb = lengths.b;
-    let kc = lengths.c;
-    let kd = lengths.d;
-    let mut a = [lent::UNTOUCHED; lent::ROOM];
-    let mut b = [lent::UNTOUCHED; lent::ROOM];
-    let mut c = [lent::UNTOUCHED; lent::ROOM];
-    let mut d = [lent::UNTOUCHED; lent::ROOM];
+    let mut works = Works::untouched();
     let answer = check::check(
         size.width,
         size.height,
-        tables::front(&tables.next1, lengths.next1),
-        tables::front(&tables.side1, lengths.side1),
-        tables::front(&tables.next3, lengths.next3),
-        tables::front(&tables.other3, lengths.other3),
-        tables::front(&tables.parent, lengths.parent),
-        tables::front(&tables.cells, lengths.cells),
-        tables::front(&tables.borders, lengths.borders),
-        &mut a[..ka],
-        &mut b[..kb],
-        &mut c[..kc],
-        &mut d[..kd],
+        &tables.next1[..lengths.next1],
+        &tables.side1[..lengths.side1],
+        &tables.next3[..lengths.next3],
+        &tables.other3[..lengths.other3],
+        &tables.parent[..lengths.parent],
+        &tables.cells[..lengths.cells],
+        &tables.borders[..lengths.borders],
+        &mut works.a[..lengths.works.a],
+        &mut works.b[..lengths.works.b],
+        &mut works.c[..lengths.works.c],
+        &mut works.d[..lengths.works.d],
     );
-    Checked {
-        number: answer.number(),
-        works: Works { a, b, c, d },
-    }
+    Answered { answer, works }
 }
 
 // Writes how the work tables are left, and ends the line.
-fn show_end<W: Write>(out: &mut W, number: u16, lengths: Lengths, works: &Works) -> io::Result<()> {
-    tables::show_works(
-        out, number, lengths.a, lengths.b, lengths.c, lengths.d, works,
-    )?;
+fn show_end<W: Write, T: Copy>(
+    out: &mut W,
+    answer: Result<T, Refusal>,
+    lengths: Lengths,
+    works: &Works,
+) -> io::Result<()> {
+    tables::show_works(out, answer, lengths.works, works)?;
     show::line_end(out)
 }
 
@@ -88,70 +73,56 @@ pub(crate) fn check<W: Write>(
 {
     let checked = check_of(size, lengths, tables);
     show::text(out, b"check")?;
-    show::label(out, checked.number)?;
-    show_end(out, checked.number, lengths, &checked.works)
+    show::number(out, answer::number(checked.answer))?;
+    show_end(out, checked.answer, lengths, &checked.works)
 }
 
 // Writes each name, or dart, with its entries of two tables, where it has them.
 fn show_each<W: Write>(out: &mut W, first: &[u16], second: &[u16]) -> io::Result<()> {
-    let mut i = 0;
-    while i < first.len() {
-        if i < second.len() {
-            show_one(out, (i % 65536) as u16, first[i], second[i])?;
-        }
-        i += 1;
+    for (i, (first, second)) in first.iter().zip(second).enumerate() {
+        show_one(out, (i % 65536) as u16, *first, *second)?;
     }
     Ok(())
 }
 
 // Writes a name, or a dart, and its two entries, where they are not the mark.
 fn show_one<W: Write>(out: &mut W, place: u16, first: u16, second: u16) -> io::Result<()> {
-    if first == dart::MARK {
-        if second == dart::MARK {
-            return Ok(());
-        }
+    if first == dart::MARK && second == dart::MARK {
+        return Ok(());
     }
-    show::label(out, place)?;
-    show::label(out, first)?;
-    show::label(out, second)
+    write!(out, " {place} {first} {second}")
 }
 
-// Counts all names of tables of these lengths into two tables of a length each, with work tables that are not clear.
+// Counts all names of tables of these lengths into two tables of a length each, with work tables that are not clear. Each call is
+// asked in a function of its own: a call passed as a parameter may have 12 arguments, and these have more.
 fn counts_of(size: Size, m: usize, h: usize, lengths: Lengths, tables: &Tables) -> Filled
     requires { Fits lengths × (m ≤ room) × (h ≤ room) }
 {
-    let ka = lengths.a;
-    let kb = lengths.b;
-    let kc = lengths.c;
-    let kd = lengths.d;
     let mut depths = [lent::UNTOUCHED; lent::ROOM];
     let mut holes = [lent::UNTOUCHED; lent::ROOM];
-    let mut a = [lent::UNTOUCHED; lent::ROOM];
-    let mut b = [lent::UNTOUCHED; lent::ROOM];
-    let mut c = [lent::UNTOUCHED; lent::ROOM];
-    let mut d = [lent::UNTOUCHED; lent::ROOM];
+    let mut works = Works::untouched();
     let answer = count::counts(
         size.width,
         size.height,
-        tables::front(&tables.next1, lengths.next1),
-        tables::front(&tables.side1, lengths.side1),
-        tables::front(&tables.next3, lengths.next3),
-        tables::front(&tables.other3, lengths.other3),
-        tables::front(&tables.parent, lengths.parent),
-        tables::front(&tables.cells, lengths.cells),
-        tables::front(&tables.borders, lengths.borders),
+        &tables.next1[..lengths.next1],
+        &tables.side1[..lengths.side1],
+        &tables.next3[..lengths.next3],
+        &tables.other3[..lengths.other3],
+        &tables.parent[..lengths.parent],
+        &tables.cells[..lengths.cells],
+        &tables.borders[..lengths.borders],
         &mut depths[..m],
         &mut holes[..h],
-        &mut a[..ka],
-        &mut b[..kb],
-        &mut c[..kc],
-        &mut d[..kd],
+        &mut works.a[..lengths.works.a],
+        &mut works.b[..lengths.works.b],
+        &mut works.c[..lengths.works.c],
+        &mut works.d[..lengths.works.d],
     );
     Filled {
-        number: answer.number(),
+        answer,
         first: depths,
         second: holes,
-        works: Works { a, b, c, d },
+        works,
     }
 }
 
@@ -163,19 +134,17 @@ fn show_filled<W: Write>(
     full: bool,
     filled: &Filled,
 ) -> io::Result<()> {
-    if filled.number != 0 {
+    if filled.answer.is_err() {
         show::kept(out, tables::untouched(&filled.first))?;
         return show::kept(out, tables::untouched(&filled.second));
     }
+    let first = tables::front(&filled.first, m);
+    let second = tables::front(&filled.second, h);
     if full {
-        return show_each(
-            out,
-            tables::front(&filled.first, m),
-            tables::front(&filled.second, h),
-        );
+        return show_each(out, first, second);
     }
-    show::table(out, tables::front(&filled.first, m), false)?;
-    show::table(out, tables::front(&filled.second, h), false)
+    show::table(out, first, false)?;
+    show::table(out, second, false)
 }
 
 // What the counts of all names answer, in two tables of a length each.
@@ -192,9 +161,9 @@ pub(crate) fn counts<W: Write>(
 {
     let filled = counts_of(size, m, h, lengths, tables);
     show::text(out, b"counts")?;
-    show::label(out, filled.number)?;
+    show::number(out, answer::number(filled.answer))?;
     show_filled(out, m, h, full, &filled)?;
-    show_end(out, filled.number, lengths, &filled.works)
+    show_end(out, filled.answer, lengths, &filled.works)
 }
 
 // Counts the turns of the curves of tables of these lengths, into two tables as long as that of level 1 next, with work tables
@@ -203,42 +172,36 @@ fn turns_of(size: Size, lengths: Lengths, tables: &Tables) -> Filled
     requires { Fits lengths }
 {
     let n = lengths.next1;
-    let ka = lengths.a;
-    let kb = lengths.b;
-    let kc = lengths.c;
-    let kd = lengths.d;
     let mut right = [lent::UNTOUCHED; lent::ROOM];
     let mut left = [lent::UNTOUCHED; lent::ROOM];
-    let mut a = [lent::UNTOUCHED; lent::ROOM];
-    let mut b = [lent::UNTOUCHED; lent::ROOM];
-    let mut c = [lent::UNTOUCHED; lent::ROOM];
-    let mut d = [lent::UNTOUCHED; lent::ROOM];
+    let mut works = Works::untouched();
     let answer = turns::turns(
         size.width,
         size.height,
-        tables::front(&tables.next1, n),
-        tables::front(&tables.side1, lengths.side1),
-        tables::front(&tables.next3, lengths.next3),
-        tables::front(&tables.other3, lengths.other3),
-        tables::front(&tables.parent, lengths.parent),
-        tables::front(&tables.cells, lengths.cells),
-        tables::front(&tables.borders, lengths.borders),
+        &tables.next1[..lengths.next1],
+        &tables.side1[..lengths.side1],
+        &tables.next3[..lengths.next3],
+        &tables.other3[..lengths.other3],
+        &tables.parent[..lengths.parent],
+        &tables.cells[..lengths.cells],
+        &tables.borders[..lengths.borders],
         &mut right[..n],
         &mut left[..n],
-        &mut a[..ka],
-        &mut b[..kb],
-        &mut c[..kc],
-        &mut d[..kd],
+        &mut works.a[..lengths.works.a],
+        &mut works.b[..lengths.works.b],
+        &mut works.c[..lengths.works.c],
+        &mut works.d[..lengths.works.d],
     );
     Filled {
-        number: answer.number(),
+        answer,
         first: right,
         second: left,
-        works: Works { a, b, c, d },
+        works,
     }
 }
 
-// What the turns of the curves answer: each dart of level 3 with its right turns and its left turns.
+// What the turns of the curves answer: each dart of level 3 with its right turns and its left turns, in two tables as long as that
+// of level 1 next.
 pub(crate) fn turns<W: Write>(
     out: &mut W,
     size: Size,
@@ -247,63 +210,73 @@ pub(crate) fn turns<W: Write>(
 ) -> io::Result<()>
     requires { Fits lengths }
 {
+    let n = lengths.next1;
     let filled = turns_of(size, lengths, tables);
     show::text(out, b"turns")?;
-    show::label(out, filled.number)?;
-    show_filled(out, lengths.next1, lengths.next1, true, &filled)?;
-    show_end(out, filled.number, lengths, &filled.works)
-}
-
-// The count of an answer, the mark for a refusal.
-fn count_of(answer: Count) -> u16 {
-    if let Count::Is(count) = answer {
-        return count;
-    }
-    dart::MARK
-}
-
-// Writes the number of an answer, the count where there is one, and how the work tables are left.
-fn show_counted<W: Write>(out: &mut W, lengths: Lengths, counted: &Counted) -> io::Result<()> {
-    show::label(out, counted.number)?;
-    if counted.number == 0 {
-        show::label(out, counted.count)?;
-    }
-    show_end(out, counted.number, lengths, &counted.works)
+    show::number(out, answer::number(filled.answer))?;
+    show_filled(out, n, n, true, &filled)?;
+    show_end(out, filled.answer, lengths, &filled.works)
 }
 
 // Asks for the depth of a name in tables of these lengths, with work tables that are not clear.
-fn depth_of(size: Size, name: u16, lengths: Lengths, tables: &Tables) -> Counted
+fn depth_of(size: Size, name: u16, lengths: Lengths, tables: &Tables) -> Answered<u16>
     requires { Fits lengths }
 {
-    let ka = lengths.a;
-    let kb = lengths.b;
-    let kc = lengths.c;
-    let kd = lengths.d;
-    let mut a = [lent::UNTOUCHED; lent::ROOM];
-    let mut b = [lent::UNTOUCHED; lent::ROOM];
-    let mut c = [lent::UNTOUCHED; lent::ROOM];
-    let mut d = [lent::UNTOUCHED; lent::ROOM];
+    let mut works = Works::untouched();
     let answer = count::depth(
         size.width,
         size.height,
-        tables::front(&tables.next1, lengths.next1),
-        tables::front(&tables.side1, lengths.side1),
-        tables::front(&tables.next3, lengths.next3),
-        tables::front(&tables.other3, lengths.other3),
-        tables::front(&tables.parent, lengths.parent),
-        tables::front(&tables.cells, lengths.cells),
-        tables::front(&tables.borders, lengths.borders),
+        &tables.next1[..lengths.next1],
+        &tables.side1[..lengths.side1],
+        &tables.next3[..lengths.next3],
+        &tables.other3[..lengths.other3],
+        &tables.parent[..lengths.parent],
+        &tables.cells[..lengths.cells],
+        &tables.borders[..lengths.borders],
         name,
-        &mut a[..ka],
-        &mut b[..kb],
-        &mut c[..kc],
-        &mut d[..kd],
+        &mut works.a[..lengths.works.a],
+        &mut works.b[..lengths.works.b],
+        &mut works.c[..lengths.works.c],
+        &mut works.d[..lengths.works.d],
     );
-    Counted {
-        number: answer.number(),
-        count: count_of(answer),
-        works: Works { a, b, c, d },
+    Answered { answer, works }
+}
+
+// Asks for the hole count of a name in tables of these lengths, with work tables that are not clear.
+fn holes_of(size: Size, name: u16, lengths: Lengths, tables: &Tables) -> Answered<u16>
+    requires { Fits lengths }
+{
+    let mut works = Works::untouched();
+    let answer = count::holes(
+        size.width,
+        size.height,
+        &tables.next1[..lengths.next1],
+        &tables.side1[..lengths.side1],
+        &tables.next3[..lengths.next3],
+        &tables.other3[..lengths.other3],
+        &tables.parent[..lengths.parent],
+        &tables.cells[..lengths.cells],
+        &tables.borders[..lengths.borders],
+        name,
+        &mut works.a[..lengths.works.a],
+        &mut works.b[..lengths.works.b],
+        &mut works.c[..lengths.works.c],
+        &mut works.d[..lengths.works.d],
+    );
+    Answered { answer, works }
+}
+
+// Writes the number of an answer, the count where there is one, and how the work tables are left.
+fn show_counted<W: Write>(
+    out: &mut W,
+    lengths: Lengths,
+    counted: &Answered<u16>,
+) -> io::Result<()> {
+    show::number(out, answer::number(counted.answer))?;
+    if let Ok(count) = counted.answer {
+        show::number(out, count)?;
     }
+    show_end(out, counted.answer, lengths, &counted.works)
 }
 
 // What the depth of a name answers.
@@ -318,41 +291,6 @@ pub(crate) fn depth<W: Write>(
 {
     show::text(out, b"depth")?;
     show_counted(out, lengths, &depth_of(size, name, lengths, tables))
-}
-
-// Asks for the hole count of a name in tables of these lengths, with work tables that are not clear.
-fn holes_of(size: Size, name: u16, lengths: Lengths, tables: &Tables) -> Counted
-    requires { Fits lengths }
-{
-    let ka = lengths.a;
-    let kb = lengths.b;
-    let kc = lengths.c;
-    let kd = lengths.d;
-    let mut a = [lent::UNTOUCHED; lent::ROOM];
-    let mut b = [lent::UNTOUCHED; lent::ROOM];
-    let mut c = [lent::UNTOUCHED; lent::ROOM];
-    let mut d = [lent::UNTOUCHED; lent::ROOM];
-    let answer = count::holes(
-        size.width,
-        size.height,
-        tables::front(&tables.next1, lengths.next1),
-        tables::front(&tables.side1, lengths.side1),
-        tables::front(&tables.next3, lengths.next3),
-        tables::front(&tables.other3, lengths.other3),
-        tables::front(&tables.parent, lengths.parent),
-        tables::front(&tables.cells, lengths.cells),
-        tables::front(&tables.borders, lengths.borders),
-        name,
-        &mut a[..ka],
-        &mut b[..kb],
-        &mut c[..kc],
-        &mut d[..kd],
-    );
-    Counted {
-        number: answer.number(),
-        count: count_of(answer),
-        works: Works { a, b, c, d },
-    }
 }
 
 // What the hole count of a name answers.
@@ -379,9 +317,14 @@ fn name<W: Write>(
 ) -> io::Result<()>
     requires { Fits lengths }
 {
-    let depth = depth_of(size, name, lengths, tables);
-    let holes = holes_of(size, name, lengths, tables);
-    show_one(out, name, depth.count, holes.count)
+    let depth = depth_of(size, name, lengths, tables).answer;
+    let holes = holes_of(size, name, lengths, tables).answer;
+    show_one(
+        out,
+        name,
+        depth.unwrap_or(dart::MARK),
+        holes.unwrap_or(dart::MARK),
+    )
 }
 
 // Writes each name that has a depth and a hole count, asked for one by one.
@@ -394,11 +337,8 @@ pub(crate) fn names<W: Write>(
     requires { Fits lengths }
 {
     show::text(out, b"names")?;
-    let count = lent::names(size.width, size.height);
-    let mut i: u16 = 0;
-    while i < count {
+    for i in 0..lent::names(size.width, size.height) {
         name(out, size, i, lengths, tables)?;
-        i += 1;
     }
     show::line_end(out)
 }

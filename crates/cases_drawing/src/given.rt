@@ -2,27 +2,18 @@ ghost use Rattle.case_sheets.specs.Room.{Fits};
 
 use crate::asked;
 use case_sheets::lengths::{Lengths, Size};
-use case_sheets::lent;
+use case_sheets::{lengths, lent};
 use case_tables::tables;
 use std::io;
 use std::io::Write;
 
-// The lengths that a case gives, without those of the tables that the counts fill.
-fn lengths_of(lengths: &[u16]) -> Lengths
+// The lengths that a case gives, without those of the tables that the counts fill, which stand before those of the work tables.
+fn lengths_of(list: &[u16]) -> Lengths
     ensures { Fits result }
 {
     Lengths {
-        next1: lent::length(lengths, 0),
-        side1: lent::length(lengths, 1),
-        next3: lent::length(lengths, 2),
-        other3: lent::length(lengths, 3),
-        parent: lent::length(lengths, 4),
-        cells: lent::length(lengths, 5),
-        borders: lent::length(lengths, 6),
-        a: lent::length(lengths, 9),
-        b: lent::length(lengths, 10),
-        c: lent::length(lengths, 11),
-        d: lent::length(lengths, 12),
+        works: lengths::works(lent::from(list, 9)),
+        ..lengths::given(list)
     }
 }
 

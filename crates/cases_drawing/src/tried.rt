@@ -12,15 +12,14 @@ use table_entries::entry;
 // The seven tables of a sheet that was drawn, in full or their sums; of a refusal, whether they are as they were.
 fn show_tables<W: Write>(
     out: &mut W,
-    number: u16,
     full: bool,
     lengths: Lengths,
-    tables: &Tables,
+    drawn: &Answered,
 ) -> io::Result<()> {
-    if number == 0 {
-        return tables::show(out, lengths, tables, full);
+    if drawn.answer.is_err() {
+        return show::kept(out, tables::all_untouched(&drawn.tables));
     }
-    show::kept(out, tables::all_untouched(tables))
+    tables::show(out, lengths, &drawn.tables, full)
 }
 
 // Writes what drawing a sheet answered.
@@ -31,17 +30,9 @@ fn show_drawn<W: Write>(
     drawn: &Answered,
 ) -> io::Result<()> {
     show::text(out, b"drawing")?;
-    show::label(out, drawn.number)?;
-    show_tables(out, drawn.number, full, lengths, &drawn.tables)?;
-    tables::show_works(
-        out,
-        drawn.number,
-        lengths.a,
-        lengths.b,
-        lengths.c,
-        lengths.d,
-        &drawn.works,
-    )?;
+    show::number(out, answer::number(drawn.answer))?;
+    show_tables(out, full, lengths, drawn)?;
+    tables::show_works(out, drawn.answer, lengths.works, &drawn.works)?;
     show::line_end(out)
 }
 
@@ -56,15 +47,8 @@ fn ask<W: Write>(
 ) -> io::Result<()>
     requires { Fits lengths }
 {
-    asked::counts(
-        out,
-        size,
-        full,
-        lengths.parent,
-        lengths.parent,
-        lengths,
-        tables,
-    )?;
+    let n = lengths.parent;
+    asked::counts(out, size, full, n, n, lengths, tables)?;
     if full {
         asked::names(out, size, lengths, tables)?;
         asked::turns(out, size, lengths, tables)?;
@@ -84,7 +68,7 @@ fn draw_lengths<W: Write>(
 {
     let drawn = case_drawing::draw(size, sheet, lengths);
     show_drawn(out, full, lengths, &drawn)?;
-    if drawn.number == 0 {
+    if drawn.answer.is_ok() {
         ask(out, size, full, lengths, &drawn.tables)?;
     }
     Ok(())
@@ -109,14 +93,10 @@ pub(crate) fn run<W: Write>(out: &mut W, kind: u8, values: &[u16]) -> io::Result
         height: entry::get(values, 1),
     };
     let rest = lent::from(values, 2);
-    if kind == b'T' {
-        return draw_stated(out, size, rest, true);
+    match kind {
+        b'T' => draw_stated(out, size, rest, true),
+        b'L' => draw_lengths(out, size, lent::from(rest, 11), true, lengths::given(rest)),
+        b'J' => given::run(out, size, entry::get(rest, 0), lent::from(rest, 1)),
+        _ => draw_made(out, size, kind, rest),
     }
-    if kind == b'L' {
-        return draw_lengths(out, size, lent::from(rest, 11), true, lengths::given(rest));
-    }
-    if kind == b'J' {
-        return given::run(out, size, entry::get(rest, 0), lent::from(rest, 1));
-    }
-    draw_made(out, size, kind, rest)
 }

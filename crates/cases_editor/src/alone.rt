@@ -11,7 +11,7 @@ use std::io::Write;
 use table_entries::entry;
 
 // What the tables by name say of a region.
-#[derive(Clone, Copy)]
+#[derive(Clone, Copy, PartialEq, Eq)]
 pub struct Region {
     pub present: bool,
     pub cells: u16,
@@ -22,12 +22,10 @@ pub struct Region {
 fn same_replies(calls: &[u16], editor: u16, replies: &[u16], others: &[u16]) -> bool {
     let count = mixture::count_of(calls);
     let mut agree = true;
-    let mut i: u16 = 0;
-    while i < count {
+    for i in 0..count {
         if mixture::call_at(calls, i).editor == editor {
             agree = agree & (entry::get(replies, i) == entry::get(others, i));
         }
-        i += 1;
     }
     agree
 }
@@ -42,10 +40,8 @@ fn own(owners: &[u16], editor: u16, name: u16) -> u16 {
 
 // Sets to 0 each name that an editor does not own.
 fn keep_own(owners: &[u16], editor: u16, names: &mut [u16]) {
-    let mut i = 0;
-    while i < names.len() {
-        names[i] = own(owners, editor, names[i]);
-        i += 1;
+    for name in names.iter_mut() {
+        *name = own(owners, editor, *name);
     }
 }
 
@@ -76,21 +72,11 @@ fn region_of(left: &Left, name: u16) -> Region {
     }
 }
 
-// Whether the same is said of a region as of another.
-fn same_region(region: Region, other: Region) -> bool {
-    (region.present == other.present)
-        & (region.cells == other.cells)
-        & (region.borders == other.borders)
-}
-
 // Writes what is said of a region, and whether the same is said among the other's calls; nothing where it is present neither time.
 fn show_region<W: Write>(out: &mut W, name: u16, region: Region, among: Region) -> io::Result<()> {
     if region.present | among.present {
-        show::text(out, b" ;")?;
-        show::label(out, name)?;
-        show::label(out, region.cells)?;
-        show::label(out, region.borders)?;
-        show::same(out, same_region(region, among))?;
+        write!(out, " ; {name} {} {}", region.cells, region.borders)?;
+        show::same(out, region == among)?;
     }
     Ok(())
 }
@@ -105,12 +91,10 @@ fn show_regions<W: Write>(
     among: &Left,
 ) -> io::Result<()> {
     let count = lent::names(size.width, size.height);
-    let mut name: u16 = 1;
-    while name < count {
+    for name in 1..count {
         if entry::get(owners, name) == editor {
             show_region(out, name, region_of(left, name), region_of(among, name))?;
         }
-        name += 1;
     }
     Ok(())
 }
@@ -129,8 +113,7 @@ pub(crate) fn show<W: Write>(
 ) -> io::Result<()>
     requires { Fits lengths }
 {
-    show::text(out, b"alone")?;
-    show::label(out, editor)?;
+    write!(out, "alone {editor}")?;
     let left = mixture::left_by(out, size, sheet, owners, calls, editor, lengths)?;
     show::same(
         out,

@@ -30,11 +30,7 @@ pub struct Left {
 pub(crate) fn count_of(calls: &[u16]) -> u16
     ensures { result ≤ 20000 }
 {
-    let count = calls.len() / 3;
-    if count < 20000 {
-        return count as u16;
-    }
-    20000
+    (calls.len() / 3).min(20000) as u16
 }
 
 // The call at a place of a list: an editor and two names.
@@ -50,10 +46,7 @@ pub(crate) fn call_at(calls: &[u16], place: u16) -> Call
 
 // Whether a call of an editor's is one of those that are made.
 fn is_made(editor: u16, whose: u16) -> bool {
-    if whose == ALL {
-        return true;
-    }
-    editor == whose
+    whose == ALL || editor == whose
 }
 
 // Makes the calls of one editor, or all of a list, one after another in a drawing, and writes what each answers. The replies come
@@ -71,11 +64,8 @@ fn make<W: Write>(
     requires { Fits lengths }
 {
     let count = count_of(calls);
-    let mut i: u16 = 0;
-    while i < count {
-        let place = i;
+    for place in 0..count {
         let call = call_at(calls, place);
-        i += 1;
         if is_made(call.editor, whose) {
             let number = one::join_shown(out, size, owners, call, lengths, tables)?;
             entry::put(replies, place, number);
@@ -108,12 +98,10 @@ fn region_at(width: u16, side1: &[u16], cell: u16, left: u16) -> u16 {
 fn set_regions(size: Size, side1: &[u16], regions: &mut [u16]) {
     let count = lent::names(size.width, size.height);
     let mut region = dart::MARK;
-    let mut name: u16 = 1;
-    while name < count {
+    for name in 1..count {
         let cell = name - 1;
         region = region_at(size.width, side1, cell, region);
         entry::put(regions, cell, region);
-        name += 1;
     }
 }
 

@@ -1,7 +1,6 @@
 ghost use Rattle.case_sheets.specs.Room.{Fits};
 
 use case_sheets::lengths::{Lengths, Size};
-use case_sheets::lent;
 use case_tables::tables::{Answered, Tables, Works};
 use case_tables::{show, tables};
 use std::io;
@@ -11,57 +10,29 @@ use std::io::Write;
 fn start(size: Size, sheet: &[u16], owners: &[u16], lengths: Lengths) -> Answered
     requires { Fits lengths }
 {
-    let x = lengths.next1;
-    let s = lengths.side1;
-    let y = lengths.next3;
-    let o = lengths.other3;
-    let p = lengths.parent;
-    let n = lengths.cells;
-    let l = lengths.borders;
-    let ka = lengths.a;
-    let kb = lengths.b;
-    let kc = lengths.c;
-    let kd = lengths.d;
-    let mut next1 = [lent::UNTOUCHED; lent::ROOM];
-    let mut side1 = [lent::UNTOUCHED; lent::ROOM];
-    let mut next3 = [lent::UNTOUCHED; lent::ROOM];
-    let mut other3 = [lent::UNTOUCHED; lent::ROOM];
-    let mut parent = [lent::UNTOUCHED; lent::ROOM];
-    let mut cells = [lent::UNTOUCHED; lent::ROOM];
-    let mut borders = [lent::UNTOUCHED; lent::ROOM];
-    let mut a = [lent::UNTOUCHED; lent::ROOM];
-    let mut b = [lent::UNTOUCHED; lent::ROOM];
-    let mut c = [lent::UNTOUCHED; lent::ROOM];
-    let mut d = [lent::UNTOUCHED; lent::ROOM];
+    let mut tables = Tables::untouched();
+    let mut works = Works::untouched();
     let answer = editor_call::start::start(
         size.width,
         size.height,
         sheet,
         owners,
-        &mut next1[..x],
-        &mut side1[..s],
-        &mut next3[..y],
-        &mut other3[..o],
-        &mut parent[..p],
-        &mut cells[..n],
-        &mut borders[..l],
-        &mut a[..ka],
-        &mut b[..kb],
-        &mut c[..kc],
-        &mut d[..kd],
+        &mut tables.next1[..lengths.next1],
+        &mut tables.side1[..lengths.side1],
+        &mut tables.next3[..lengths.next3],
+        &mut tables.other3[..lengths.other3],
+        &mut tables.parent[..lengths.parent],
+        &mut tables.cells[..lengths.cells],
+        &mut tables.borders[..lengths.borders],
+        &mut works.a[..lengths.works.a],
+        &mut works.b[..lengths.works.b],
+        &mut works.c[..lengths.works.c],
+        &mut works.d[..lengths.works.d],
     );
     Answered {
-        number: answer.number(),
-        tables: Tables {
-            next1,
-            side1,
-            next3,
-            other3,
-            parent,
-            cells,
-            borders,
-        },
-        works: Works { a, b, c, d },
+        answer,
+        tables,
+        works,
     }
 }
 
@@ -79,16 +50,15 @@ fn show_tables<W: Write>(
     size: Size,
     sheet: &[u16],
     lengths: Lengths,
-    number: u16,
-    tables: &Tables,
+    started: &Answered,
 ) -> io::Result<()>
     requires { Fits lengths }
 {
-    if number != 0 {
-        return show::kept(out, tables::all_untouched(tables));
+    if started.answer.is_err() {
+        return show::kept(out, tables::all_untouched(&started.tables));
     }
     let drawn = case_drawing::draw(size, sheet, lengths);
-    show::same(out, tables::same(tables, &drawn.tables))
+    show::same(out, started.tables == drawn.tables)
 }
 
 // Starts a drawing and writes what is answered.
@@ -102,18 +72,9 @@ pub(crate) fn show<W: Write>(
     requires { Fits lengths }
 {
     let started = start(size, sheet, owners, lengths);
-    let number = started.number;
     show::text(out, b"start")?;
-    show::label(out, number)?;
-    show_tables(out, size, sheet, lengths, number, &started.tables)?;
-    tables::show_works(
-        out,
-        number,
-        lengths.a,
-        lengths.b,
-        lengths.c,
-        lengths.d,
-        &started.works,
-    )?;
+    show::number(out, answer::number(started.answer))?;
+    show_tables(out, size, sheet, lengths, &started)?;
+    tables::show_works(out, started.answer, lengths.works, &started.works)?;
     show::line_end(out)
 }

@@ -71,11 +71,9 @@ pub(crate) fn run<W: Write>(out: &mut W, kind: u8, values: &[u16]) -> io::Result
         height: entry::get(values, 1),
     };
     let rest = lent::from(values, 2);
-    if kind == b'S' {
-        return start_given(out, size, rest);
+    match kind {
+        b'S' => start_given(out, size, rest),
+        b'G' => join_given(out, size, rest),
+        _ => mix_given(out, size, rest),
     }
-    if kind == b'G' {
-        return join_given(out, size, rest);
-    }
-    mix_given(out, size, rest)
 }

@@ -1,18 +1,17 @@
 ghost use Rattle.case_sheets.specs.Room.{Fits};
 
 use case_sheets::lengths::{Lengths, Size};
-use case_sheets::lent;
 use case_tables::tables::{Tables, Works};
 use case_tables::{show, tables};
 use join_call::list;
-use join_list::each::Listed;
+use join_list::each::ListRefusal;
 use std::io;
 use std::io::Write;
 
 // What a list answered, and the tables after it.
 #[derive(Clone, Copy)]
 pub struct Joined {
-    pub answer: Listed,
+    pub answer: Result<(), ListRefusal>,
     pub tables: Tables,
     pub works: Works,
 }
@@ -21,79 +20,28 @@ pub struct Joined {
 fn join(size: Size, names: &[u16], lengths: Lengths, tables: &Tables) -> Joined
     requires { Fits lengths }
 {
-    let x = lengths.next1;
-    let s = lengths.side1;
-    let y = lengths.next3;
-    let o = lengths.other3;
-    let p = lengths.parent;
-    let n = lengths.cells;
-    let l = lengths.borders;
-    let ka = lengths.a;
-    let kb = lengths.b;
-    let kc = lengths.c;
-    let kd = lengths.d;
-    let mut next1 = tables.next1;
-    let mut side1 = tables.side1;
-    let mut next3 = tables.next3;
-    let mut other3 = tables.other3;
-    let mut parent = tables.parent;
-    let mut cells = tables.cells;
-    let mut borders = tables.borders;
-    let mut a = [lent::UNTOUCHED; lent::ROOM];
-    let mut b = [lent::UNTOUCHED; lent::ROOM];
-    let mut c = [lent::UNTOUCHED; lent::ROOM];
-    let mut d = [lent::UNTOUCHED; lent::ROOM];
+    let mut tables = *tables;
+    let mut works = Works::untouched();
     let answer = list::join_list(
         size.width,
         size.height,
-        &mut next1[..x],
-        &mut side1[..s],
-        &mut next3[..y],
-        &mut other3[..o],
-        &mut parent[..p],
-        &mut cells[..n],
-        &mut borders[..l],
+        &mut tables.next1[..lengths.next1],
+        &mut tables.side1[..lengths.side1],
+        &mut tables.next3[..lengths.next3],
+        &mut tables.other3[..lengths.other3],
+        &mut tables.parent[..lengths.parent],
+        &mut tables.cells[..lengths.cells],
+        &mut tables.borders[..lengths.borders],
         names,
-        &mut a[..ka],
-        &mut b[..kb],
-        &mut c[..kc],
-        &mut d[..kd],
+        &mut works.a[..lengths.works.a],
+        &mut works.b[..lengths.works.b],
+        &mut works.c[..lengths.works.c],
+        &mut works.d[..lengths.works.d],
     );
     Joined {
         answer,
-        tables: Tables {
-            next1,
-            side1,
-            next3,
-            other3,
-            parent,
-            cells,
-            borders,
-        },
-        works: Works { a, b, c, d },
-    }
-}
-
-// The number of what a list answered, 0 where it is done.
-fn number(answer: Listed) -> u16 {
-    match answer {
-        Listed::Done => 0,
-        Listed::Refused {
-            answer: refusal,
-            place: _,
-        } => refusal.number(),
-    }
-}
-
-// Writes the place of a refusal, and whether the seven tables are as they were; nothing where the list is done.
-fn show_refusal<W: Write>(out: &mut W, answer: Listed, same: bool) -> io::Result<()> {
-    match answer {
-        Listed::Done => Ok(()),
-        Listed::Refused { answer: _, place } => {
-            show::text(out, b" place")?;
-            show::label(out, place)?;
-            show::kept(out, same)
-        }
+        tables,
+        works,
     }
 }
 
@@ -105,19 +53,13 @@ fn show_answer<W: Write>(
     before: &Tables,
     joined: &Joined,
 ) -> io::Result<()> {
-    let answer = joined.answer;
-    let number = number(answer);
-    show::label(out, number)?;
-    show_refusal(out, answer, tables::same(before, &joined.tables))?;
-    tables::show_works(
-        out,
-        number,
-        lengths.a,
-        lengths.b,
-        lengths.c,
-        lengths.d,
-        &joined.works,
-    )
+    let answer = joined.answer.map_err(|refused| refused.refusal);
+    show::number(out, answer::number(answer))?;
+    if let Err(refused) = joined.answer {
+        write!(out, " place {}", refused.place)?;
+        show::kept(out, *before == joined.tables)?;
+    }
+    tables::show_works(out, answer, lengths.works, &joined.works)
 }
 
 // Joins by a list of names and writes what is answered.

@@ -93,13 +93,11 @@ fn go<W: Write>(
 fn lengths_of(kind: u8, size: Size, values: &[u16]) -> Lengths
     ensures { Fits result }
 {
-    if kind == b'J' {
-        return lengths::given(lent::from(values, 2));
+    match kind {
+        b'J' => lengths::given(lent::from(values, 2)),
+        b'M' => lengths::given(lent::from(values, list_end(values))),
+        _ => lengths::stated(size),
     }
-    if kind == b'M' {
-        return lengths::given(lent::from(values, list_end(values)));
-    }
-    lengths::stated(size)
 }
 
 // Runs a case.

@@ -12,38 +12,13 @@
 
 mod tried;
 
-use case_files::{file, text};
+use case_files::{cases, text};
 use std::io;
-use std::io::{BufWriter, Write};
-
-// How many bytes wait before they are written out.
-const PAGE: usize = 65536;
-
-// Runs the case of a line.
-fn run<W: Write>(out: &mut W, line: &[u8]) -> io::Result<()> {
-    if line.len() == 0 {
-        return Ok(());
-    }
-    let mut values = text::room();
-    let n = text::numbers(text::after(line, 1), &mut values);
-    tried::run(out, line[0], &values[..n])
-}
-
-// Runs the case of each line.
-fn run_all<W: Write>(out: &mut W, cases: &[u8]) -> io::Result<()> {
-    let mut at = 0;
-    while at < cases.len() {
-        let line = text::line(cases, at);
-        run(out, line)?;
-        at += line.len() + 1;
-    }
-    Ok(())
-}
 
 fn main(rt: HostRuntime) -> io::Result<()> {
-    let mut bytes = file::room();
-    let n = file::read_all(&rt, &mut bytes)?;
-    let mut out = BufWriter::with_capacity(rt.alloc(), PAGE, io::writer(&rt))?;
-    run_all(&mut out, &bytes[..n])?;
-    out.flush()
+    cases::run(&rt, |out, kind, text| {
+        let mut values = text::room();
+        let n = text::numbers(text, &mut values);
+        tried::run(out, kind, &values[..n])
+    })
 }

@@ -1,7 +1,9 @@
 ghost use Rattle.std.specs.Prelude.{◌≤◌};
-ghost use Rattle.case_sheets.specs.Room.{room};
+ghost use Rattle.case_sheets.specs.Room.{room, WorksFit};
 
-use case_sheets::{lent, made};
+use answer::Refusal;
+use case_sheets::lengths::WorkLengths;
+use case_sheets::{lengths, lent, made};
 use case_tables::tables::Works;
 use case_tables::{show, tables};
 use std::io;
@@ -22,16 +24,13 @@ pub struct Lengths {
     pub next: usize,
     pub other: usize,
     pub side: usize,
-    pub a: usize,
-    pub b: usize,
-    pub c: usize,
-    pub d: usize,
+    pub works: WorkLengths,
 }
 
-// What drawing a level answered: the refusal's number, and the tables after it.
+// What drawing a level answered, and the tables after it.
 #[derive(Clone, Copy)]
 pub struct Answered {
-    pub number: u16,
+    pub answer: Result<(), Refusal>,
     pub next: [u16; lent::ROOM],
     pub other: [u16; lent::ROOM],
     pub side: [u16; lent::ROOM],
@@ -40,70 +39,53 @@ pub struct Answered {
 
 // The lengths that a case gives.
 fn lengths_of(lengths: &[u16]) -> Lengths
-    ensures { (result.next ≤ room) × (result.other ≤ room) × (result.side ≤ room) × (result.a ≤ room) ×
-        (result.b ≤ room) × (result.c ≤ room) × (result.d ≤ room) }
+    ensures { (result.next ≤ room) × (result.other ≤ room) × (result.side ≤ room) ×
+        WorksFit result.works }
 {
     Lengths {
         next: lent::length(lengths, 0),
         other: lent::length(lengths, 1),
         side: lent::length(lengths, 2),
-        a: lent::length(lengths, 3),
-        b: lent::length(lengths, 4),
-        c: lent::length(lengths, 5),
-        d: lent::length(lengths, 6),
+        works: lengths::works(lent::from(lengths, 3)),
     }
 }
 
 // Draws a level of a sheet into tables of these lengths.
 fn draw(case: Case, sheet: &[u16], lengths: Lengths) -> Answered
-    requires { (lengths.next ≤ room) × (lengths.other ≤ room) × (lengths.side ≤ room) × (lengths.a ≤ room) ×
-        (lengths.b ≤ room) × (lengths.c ≤ room) × (lengths.d ≤ room) }
+    requires { (lengths.next ≤ room) × (lengths.other ≤ room) × (lengths.side ≤ room) ×
+        WorksFit lengths.works }
 {
-    let n = lengths.next;
-    let o = lengths.other;
-    let s = lengths.side;
-    let ka = lengths.a;
-    let kb = lengths.b;
-    let kc = lengths.c;
-    let kd = lengths.d;
     let mut next = [lent::UNTOUCHED; lent::ROOM];
     let mut other = [lent::UNTOUCHED; lent::ROOM];
     let mut side = [lent::UNTOUCHED; lent::ROOM];
-    let mut a = [lent::UNTOUCHED; lent::ROOM];
-    let mut b = [lent::UNTOUCHED; lent::ROOM];
-    let mut c = [lent::UNTOUCHED; lent::ROOM];
-    let mut d = [lent::UNTOUCHED; lent::ROOM];
+    let mut works = Works::untouched();
     let answer = level_call::draw::draw(
         case.width,
         case.height,
         case.level,
         sheet,
-        &mut next[..n],
-        &mut other[..o],
-        &mut side[..s],
-        &mut a[..ka],
-        &mut b[..kb],
-        &mut c[..kc],
-        &mut d[..kd],
+        &mut next[..lengths.next],
+        &mut other[..lengths.other],
+        &mut side[..lengths.side],
+        &mut works.a[..lengths.works.a],
+        &mut works.b[..lengths.works.b],
+        &mut works.c[..lengths.works.c],
+        &mut works.d[..lengths.works.d],
     );
     Answered {
-        number: answer.number(),
+        answer,
         next,
         other,
         side,
-        works: Works { a, b, c, d },
+        works,
     }
 }
 
 // Whether the result tables are as they were.
 fn untouched(drawn: &Answered) -> bool {
-    if !tables::untouched(&drawn.next) {
-        return false;
-    }
-    if !tables::untouched(&drawn.other) {
-        return false;
-    }
-    tables::untouched(&drawn.side)
+    tables::untouched(&drawn.next)
+        & tables::untouched(&drawn.other)
+        & tables::untouched(&drawn.side)
 }
 
 // The result tables of a level that was drawn, in full or their sums; of a refusal, whether they are as they were.
@@ -113,12 +95,12 @@ fn show_tables<W: Write>(
     lengths: Lengths,
     drawn: &Answered,
 ) -> io::Result<()> {
-    if drawn.number == 0 {
-        show::table(out, tables::front(&drawn.next, lengths.next), full)?;
-        show::table(out, tables::front(&drawn.other, lengths.other), full)?;
-        return show::table(out, tables::front(&drawn.side, lengths.side), full);
+    if drawn.answer.is_err() {
+        return show::kept(out, untouched(drawn));
     }
-    show::kept(out, untouched(drawn))
+    show::table(out, tables::front(&drawn.next, lengths.next), full)?;
+    show::table(out, tables::front(&drawn.other, lengths.other), full)?;
+    show::table(out, tables::front(&drawn.side, lengths.side), full)
 }
 
 // Writes what drawing a level answered.
@@ -129,17 +111,9 @@ fn show_drawn<W: Write>(
     drawn: &Answered,
 ) -> io::Result<()> {
     show::text(out, b"level")?;
-    show::label(out, drawn.number)?;
+    show::number(out, answer::number(drawn.answer))?;
     show_tables(out, full, lengths, drawn)?;
-    tables::show_works(
-        out,
-        drawn.number,
-        lengths.a,
-        lengths.b,
-        lengths.c,
-        lengths.d,
-        &drawn.works,
-    )?;
+    tables::show_works(out, drawn.answer, lengths.works, &drawn.works)?;
     show::line_end(out)
 }
 
@@ -177,11 +151,9 @@ pub(crate) fn run<W: Write>(out: &mut W, kind: u8, values: &[u16]) -> io::Result
         level: entry::get(values, 2),
     };
     let rest = lent::from(values, 3);
-    if kind == b'T' {
-        return draw_slots(out, case, rest, true);
+    match kind {
+        b'T' => draw_slots(out, case, rest, true),
+        b'L' => draw_case(out, case, lent::from(rest, 7), rest, true),
+        _ => draw_made(out, case, kind, rest),
     }
-    if kind == b'L' {
-        return draw_case(out, case, lent::from(rest, 7), rest, true);
-    }
-    draw_made(out, case, kind, rest)
 }

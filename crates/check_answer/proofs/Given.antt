@@ -8,12 +8,13 @@ use mathlib.Core.List.{List, [], ◌++◌}
 use mathlib.Core.Logic.{◌≢◌}
 use Prim.Native.Nat.{ℕ}
 use lib.Dec.{lit<}
+use Rattle.std.specs.Prelude.{Result}
 use Rattle.laws.specs.First.{first_failed, numbered}
 use Rattle.laws.proofs.First.{Passed, all_passed, passed_append, stopped_append}
 use Rattle.sheet_size.specs.Size.{within}
 use Rattle.paper.specs.Drawing.{Tables, is_drawing}
 use Rattle.paper.specs.Refusal.{Outcome, work_left, stated, cleared, outcome, seven, size_tests, given_tests}
-use Rattle.answer.specs.declared.Answer.{Answer}
+use Rattle.answer.specs.declared.Refusal.{Refusal}
 use Rattle.answer.specs.Answer.{number_of, told}
 use Rattle.answer.proofs.Outcome.{work_cleared, outcome_number, outcome_work, told_refused}
 use Rattle.check_answer.specs.Check.{checked}
@@ -28,7 +29,7 @@ module _ (w h : ℕ) (t : Tables) (ws : List (List ℕ)) where
   given_numbered = refl
 
   -- A check that answered v and left the work tables vs.
-  module _ (v : Answer) (vs : List (List ℕ)) (e : told v (seven t) vs ≡ checked w h t ws) where
+  module _ (v : Result (Unit {0}) Refusal) (vs : List (List ℕ)) (e : told v (seven t) vs ≡ checked w h t ws) where
     pub given_number : number_of v ≡ first_failed (given_tests w h t ws)
     unfolding told checked
     given_number = ap (λ (o : Outcome). o.number) e ∙ outcome_number (first_failed (given_tests w h t ws)) [] (seven t) (seven t) ws

@@ -8,12 +8,12 @@ use mathlib.Core.Logic.{◌≢◌}
 use Prim.Native.Nat.{ℕ}
 use lib.Dec.{lit<}
 use lib.ListN.{length}
+use Rattle.std.specs.Prelude.{Result}
 use Rattle.laws.specs.First.{first_failed, numbered}
 use Rattle.laws.proofs.First.{all_passed, failed_below, failed_from, passed_append, stopped_append}
-use Rattle.sheet_size.specs.Size.{within}
 use Rattle.paper.specs.Drawing.{Tables, is_drawing}
 use Rattle.paper.specs.Refusal.{stated, cleared, seven, size_tests, given_tests}
-use Rattle.answer.specs.declared.Answer.{Answer}
+use Rattle.answer.specs.declared.Refusal.{Refusal}
 use Rattle.answer.specs.Answer.{number_of, told}
 use Rattle.answer.proofs.Outcome.{work_cleared, told_early, told_left}
 use Rattle.table_lengths.specs.Lengths.{lengths}
@@ -26,7 +26,7 @@ unfolding numbered
 found_numbered d = refl
 
 -- Tables of which this is answered.
-module _ (w h : ℕ) (t : Tables) (ws : List (List ℕ)) (r : Answer)
+module _ (w h : ℕ) (t : Tables) (ws : List (List ℕ)) (r : Result (Unit {0}) Refusal)
     (e : number_of r ≡ first_failed (size_tests w h (lengths w h (map length (by_name w h t ws)) (map length (by_dart w h t ws))))) where
   abbrev tests : List (Bool × ℕ)
   tests = size_tests w h (stated w h t ws)
@@ -45,17 +45,18 @@ module _ (w h : ℕ) (t : Tables) (ws : List (List ℕ)) (r : Answer)
       (rw s (failed_below 1 5 tests (lit< tt) (size_numbered w h (stated w h t ws)))) [] (seven t) (seven t) ws
 
   module _ (z : number_of r ≡ 0) where
-    pub check_ready : (within w h ≡ true) × (stated w h t ws ≡ true)
+    pub check_ready : stated w h t ws ≡ true
     unfolding size_tests
-    check_ready =
-        let p = all_passed 1 5 (lit< tt) tests (size_numbered w h (stated w h t ws)) (sym number ∙ z) in
-        (p.0, p.1.0)
+    check_ready = (all_passed 1 5 (lit< tt) tests (size_numbered w h (stated w h t ws)) (sym number ∙ z)).1.0
 
-    pub check_found : (vs : List (List ℕ)) → vs ≡ cleared ws → (d : Bool) → d ≡ is_drawing w h t → (u : Answer)
+    -- what is found is of a size a by b, which is this one
+    pub check_found : (a b : ℕ) → (a ≡ w) × (b ≡ h) → (vs : List (List ℕ)) → vs ≡ cleared ws
+        → (d : Bool) → d ≡ is_drawing a b t → (u : Result (Unit {0}) Refusal)
         → number_of u ≡ first_failed ((d, 5) ∷ []) → told u (seven t) vs ≡ checked w h t ws
     unfolding checked given_tests
-    check_found vs c d i u k =
-        let f : number_of u ≡ first_failed last = k ∙ ap (λ b. first_failed ((b, 5) ∷ [])) i in
+    check_found a b m vs c d i u k =
+        let f : number_of u ≡ first_failed last = k ∙ (λ j. first_failed ((i j, 5) ∷ []))
+        ∙ (λ j. first_failed ((is_drawing (m.0 j) (m.1 j) t, 5) ∷ [])) in
         let s = passed_append 1 5 (lit< tt) tests last (size_numbered w h (stated w h t ws)) (sym number ∙ z) in
         told_left u (first_failed (given_tests w h t ws)) (f ∙ sym s) (seven t) ws vs
         (c ∙ sym (work_cleared (first_failed (given_tests w h t ws)) ws (rw s (failed_from 5 6 last (found_numbered (is_drawing w h t))))))

@@ -1,6 +1,6 @@
 // The check whether seven tables are the drawing of some sheet.
+// The tables stay parameters: a struct of lent tables was tried, and proves less (docs/DECISIONS.md, "The code's forms").
 ghost use Rattle.std.specs.Prelude.{◌≡◌, true};
-ghost use Rattle.sheet_size.specs.Size.{within};
 ghost use Rattle.paper.specs.Drawing.{is_drawing};
 ghost use Rattle.paper.specs.Refusal.{stated, seven};
 ghost use Rattle.answer.specs.Answer.{told};
@@ -8,13 +8,13 @@ ghost use Rattle.table_lengths.specs.Given.{tables, works};
 ghost use Rattle.check_answer.specs.Check.{checked};
 
 use crate::agree;
-use answer::Answer;
+use answer::Refusal;
+use sheet_size::Size;
 use table_entries::entry;
 
 // Whether the seven tables are the drawing of some sheet of this size.
 fn is_drawing(
-    width: u16,
-    height: u16,
+    size: Size,
     next1: &[u16],
     side1: &[u16],
     next3: &[u16],
@@ -27,26 +27,23 @@ fn is_drawing(
     work_c: &mut [u16],
     work_d: &mut [u16],
 ) -> bool
-    requires { (within width height ≡ true) ×
-        (stated width height (tables next1.now side1.now next3.now other3.now parent.now cells.now borders.now)
+    requires { stated size.width size.height (tables next1.now side1.now next3.now other3.now parent.now cells.now borders.now)
         (works work_a.old work_b.old work_c.old work_d.old) ≡
-        true) }
+        true }
     ensures { result ≡
-        is_drawing width height
+        is_drawing size.width size.height
         (tables next1.now side1.now next3.now other3.now parent.now
         cells.now borders.now) }
 {
-    agree::recover_names(width, height, side1, work_a, work_b, work_c);
-    if !agree::totals_agree(
-        width, height, cells, borders, work_a, work_b, work_c, work_d,
-    ) {
+    agree::recover_names(size, side1, work_a, work_b, work_c);
+    if !agree::totals_agree(size, cells, borders, work_a, work_b, work_c, work_d) {
         return false;
     }
-    if !agree::lines_agree(width, height, next1, side1, work_a, work_b, work_c, work_d) {
+    if !agree::lines_agree(size, next1, side1, work_a, work_b, work_c, work_d) {
         return false;
     }
     agree::curves_agree(
-        width, height, next1, side1, next3, other3, parent, work_a, work_b, work_c, work_d,
+        size, next1, side1, next3, other3, parent, work_a, work_b, work_c, work_d,
     )
 }
 
@@ -66,7 +63,7 @@ pub fn check(
     work_b: &mut [u16],
     work_c: &mut [u16],
     work_d: &mut [u16],
-) -> Answer
+) -> Result<(), Refusal>
     ensures { told result
         (seven
         (tables next1.now side1.now next3.now other3.now parent.now
@@ -77,7 +74,7 @@ pub fn check(
         cells.now borders.now)
         (works work_a.old work_b.old work_c.old work_d.old) }
 {
-    let answer = check_answer::refusal(
+    let size = check_answer::refusal(
         width,
         height,
         &[parent.len(), cells.len(), borders.len()],
@@ -91,13 +88,9 @@ pub fn check(
             work_c.len(),
             work_d.len(),
         ],
-    );
-    if answer.number() != 0 {
-        return answer;
-    }
+    )?;
     let drawing = is_drawing(
-        width, height, next1, side1, next3, other3, parent, cells, borders, work_a, work_b, work_c,
-        work_d,
+        size, next1, side1, next3, other3, parent, cells, borders, work_a, work_b, work_c, work_d,
     );
     entry::clear_four(work_a, work_b, work_c, work_d);
     check_answer::found(drawing)

@@ -8,6 +8,7 @@ use mathlib.Core.List.{List, [], ◌∷◌}
 use Prim.Native.Nat.{ℕ, ◌+◌, ◌*◌, ◌≤◌, ◌<◌}
 use native.Mathlib.Omega.{arith}
 use lib.ListN.{length, get_or, replicate, length-replicate}
+use Rattle.std.specs.Prelude.{Result}
 use Rattle.laws.proofs.Table.{table_agree}
 use Rattle.sheet_size.specs.Size.{within}
 use Rattle.point_darts.specs.Dart.{mark, slots}
@@ -17,7 +18,7 @@ use Rattle.paper.specs.Enclosure.{holes}
 use Rattle.paper.specs.Drawing.{Tables}
 use Rattle.paper.specs.Joining.{on}
 use Rattle.paper.specs.Refusal.{seven, cleared}
-use Rattle.answer.specs.declared.Answer.{Answer}
+use Rattle.answer.specs.declared.Refusal.{Refusal}
 use Rattle.answer.specs.Answer.{number_of, told}
 use Rattle.table_lengths.proofs.Tested.{stated_names, stated_slots}
 use Rattle.region_depths.specs.Tree.{known, Falls}
@@ -31,7 +32,7 @@ use Rattle.count_turns.proofs.Drawn.{Told, is_drawing_turns}
 use Rattle.count_answer.specs.Count.{Countable, Lent}
 
 -- Tables t, a work table b and others cs were given; the work table is now a, the others ds.
-module _ (w h : ℕ) (t : Tables) (b : List ℕ) (cs : List (List ℕ)) (v : Answer) (a : List ℕ) (ds : List (List ℕ))
+module _ (w h : ℕ) (t : Tables) (b : List ℕ) (cs : List (List ℕ)) (v : Result (Unit {0}) Refusal) (a : List ℕ) (ds : List (List ℕ))
     (e : told v (seven t) (a ∷ ds) ≡ checked w h t (b ∷ cs)) where
   module _ (z : number_of v ≡ 0) where
     size : within w h ≡ true
@@ -84,9 +85,9 @@ module _ (w h : ℕ) (t : Tables) (b : List ℕ) (cs : List (List ℕ)) (v : Ans
     accepted_depths m p = (falls, fits, p ∙ sym long)
 
     pub accepted_holes : (m : ℕ) → m ≡ w * h + 1
-        → (within w h ≡ true) × (length t.side1 ≡ slots w h) × (length a ≡ slots w h) × (0 < length t.parent)
+        → (length t.side1 ≡ slots w h) × (length a ≡ slots w h) × (0 < length t.parent)
         × (length t.parent ≤ mark) × (m ≡ length t.parent)
-    accepted_holes m p = (size, sides, work, omega (arith, long), fits, p ∙ sym long)
+    accepted_holes m p = (sides, work, omega (arith, long), fits, p ∙ sym long)
 
     pub accepted_counts : counts (λ _. pieces t.side1 (tops w h (on t.side1))) t.parent
         ≡ counts (holes w h (on t.side1)) t.parent
@@ -97,9 +98,9 @@ module _ (w h : ℕ) (t : Tables) (b : List ℕ) (cs : List (List ℕ)) (v : Ans
 
     -- the turns of the curves may be counted, and are those of the paper
     pub accepted_curves : (m n : ℕ) → m ≡ slots w h → n ≡ slots w h
-        → (within w h ≡ true) × (length t.next1 ≡ slots w h) × (m ≡ slots w h) × (n ≡ slots w h)
+        → (length t.next1 ≡ slots w h) × (m ≡ slots w h) × (n ≡ slots w h)
     accepted_curves m n p q =
-        (size, (stated_slots w h t (b ∷ cs) (accepted_stated w h t (b ∷ cs) v (a ∷ ds) e z)).0, p, q)
+        ((stated_slots w h t (b ∷ cs) (accepted_stated w h t (b ∷ cs) v (a ∷ ds) e z)).0, p, q)
 
     pub accepted_turns : Told w h t
     accepted_turns = is_drawing_turns w h t size (accepted_is_drawing w h t (b ∷ cs) v (a ∷ ds) e z)

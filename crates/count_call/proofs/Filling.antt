@@ -9,13 +9,14 @@ use mathlib.Core.List.{List, [], ◌∷◌, ◌++◌}
 use mathlib.Core.Logic.{◌≢◌}
 use Prim.Native.Nat.{ℕ}
 use lib.Dec.{lit<}
+use Rattle.std.specs.Prelude.{Result}
 use Rattle.laws.specs.First.{first_failed, numbered}
 use Rattle.laws.proofs.First.{all_passed, failed_below}
 use Rattle.laws.proofs.Test.{and_right}
 use Rattle.sheet_size.specs.Size.{within}
 use Rattle.paper.specs.Drawing.{Tables, is_drawing}
 use Rattle.paper.specs.Refusal.{Outcome, work_left, stated, seven, size_tests, given_tests}
-use Rattle.answer.specs.declared.Answer.{Answer}
+use Rattle.answer.specs.declared.Refusal.{Refusal}
 use Rattle.answer.specs.Answer.{number_of, told}
 use Rattle.answer.proofs.Outcome.{work_cleared, outcome_number, outcome_work, told_early, told_refused, told_done}
 use Rattle.check_answer.specs.Check.{checked}
@@ -45,7 +46,7 @@ module _ (w h : ℕ) (t : Tables) (k : Bool) (ws : List (List ℕ)) where
   judged_check e = rw (e, and-true (stated w h t ws))
 
   -- Judging: the size and the lengths, and then the check.
-  module _ (f : Answer) (e : number_of f ≡ first_failed (size_tests w h k)) where
+  module _ (f : Result (Unit {0}) Refusal) (e : number_of f ≡ first_failed (size_tests w h k)) where
     pub judge_stopped : number_of f ≢ 0 → told f (seven t) ws ≡ judged w h t k ws
     unfolding judged fill_refusal size_tests
     judge_stopped z =
@@ -53,14 +54,15 @@ module _ (w h : ℕ) (t : Tables) (k : Bool) (ws : List (List ℕ)) where
         told_early f (fill_refusal w h t k ws) (e ∙ s) z
         (rw (← s) (failed_below 1 5 (size_tests w h k) (lit< tt) (size_numbered w h k))) [] (seven t) (seven t) ws
 
-    pub judge_checked : number_of f ≡ 0 → (v : Answer) (vs : List (List ℕ)) → told v (seven t) vs ≡ checked w h t ws
+    pub judge_checked : number_of f ≡ 0 → (v : Result (Unit {0}) Refusal) (vs : List (List ℕ)) → told v (seven t) vs ≡ checked w h t ws
         → told v (seven t) vs ≡ judged w h t k ws
     unfolding size_tests
     judge_checked z v vs c =
         c ∙ sym (judged_check (all_passed 1 5 (lit< tt) (size_tests w h k) (size_numbered w h k) (sym e ∙ z)).1.0)
 
   -- A judging of the same lengths that answered v and left the work tables vs.
-  module _ (l : Bool) (same : l ≡ k) (v : Answer) (vs : List (List ℕ)) (e : told v (seven t) vs ≡ judged w h t l ws) where
+  module _ (l : Bool) (same : l ≡ k) (v : Result (Unit {0}) Refusal) (vs : List (List ℕ))
+      (e : told v (seven t) vs ≡ judged w h t l ws) where
     answered : told v (seven t) vs ≡ judged w h t k ws
     answered = e ∙ ap (λ b. judged w h t b ws) same
 
@@ -89,8 +91,8 @@ module _ (w h : ℕ) (t : Tables) (k : Bool) (ws : List (List ℕ)) where
       fill_checked = answered ∙ judged_check all_long
 
       pub fill_done : (ms fs gs us : List (List ℕ)) → gs ≡ fs → us ≡ vs
-          → told Answer.Done (seven t ++ gs) us ≡ filled w h t k ms fs ws
-      unfolding filled number_of
+          → told v (seven t ++ gs) us ≡ filled w h t k ms fs ws
+      unfolding filled
       fill_done ms fs gs us p u =
-          told_done Answer.Done (fill_refusal w h t k ws) (sym z ∙ number) refl (seven t ++ ms) (seven t ++ fs) ws (seven t ++ gs) us
+          told_done v (fill_refusal w h t k ws) number z (seven t ++ ms) (seven t ++ fs) ws (seven t ++ gs) us
           (rw p) (u ∙ work ∙ ap (λ r. work_left r ws) (sym number ∙ z) ∙ work_cleared 0 ws (λ q. absurd (q refl)))

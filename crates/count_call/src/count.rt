@@ -1,3 +1,4 @@
+// The tables stay parameters: a struct of lent tables was tried, and proves less (docs/DECISIONS.md, "The code's forms").
 ghost use Rattle.std.specs.Prelude.{◌≡◌, [], ◌∷◌, ◌++◌};
 ghost use Rattle.paper.specs.Refusal.{seven, deepened, holed};
 ghost use Rattle.answer.specs.Answer.{told};
@@ -6,11 +7,11 @@ ghost use Rattle.count_call.specs.Tally.{tallied};
 ghost use Rattle.count_answer.specs.Count.{counted};
 
 use crate::given;
-use answer::Answer;
+use answer::Refusal;
 use check_call::check;
-use count_answer::Count;
 use count_holes::holes;
 use region_depths::census;
+use sheet_size::Size;
 
 // The depth of a region, or of the outside for the name 0: refusals 1, 4, 5 and 8. The tables stay as they are; the work
 // tables are left at 1 and 4, else cleared.
@@ -29,7 +30,7 @@ pub fn depth(
     work_b: &mut [u16],
     work_c: &mut [u16],
     work_d: &mut [u16],
-) -> Count
+) -> Result<u16, Refusal>
     ensures { counted result
         (seven
         (tables next1.now side1.now next3.now other3.now parent.now
@@ -65,7 +66,7 @@ pub fn holes(
     work_b: &mut [u16],
     work_c: &mut [u16],
     work_d: &mut [u16],
-) -> Count
+) -> Result<u16, Refusal>
     ensures { counted result
         (seven
         (tables next1.now side1.now next3.now other3.now parent.now
@@ -103,7 +104,7 @@ pub fn counts(
     work_b: &mut [u16],
     work_c: &mut [u16],
     work_d: &mut [u16],
-) -> Answer
+) -> Result<(), Refusal>
     ensures { told result
         (seven
         (tables next1.now side1.now next3.now other3.now parent.now
@@ -117,8 +118,7 @@ pub fn counts(
         tally.old
         (works work_a.old work_b.old work_c.old work_d.old) }
 {
-    let by_dart: [usize; 0] = [];
-    let answer = given::judge(
+    given::judge(
         width,
         height,
         next1,
@@ -129,16 +129,13 @@ pub fn counts(
         cells,
         borders,
         &[depths.len(), tally.len()],
-        &by_dart,
+        &[],
         work_a,
         work_b,
         work_c,
         work_d,
-    );
-    if answer.number() != 0 {
-        return answer;
-    }
+    )?;
     census::all_depths(parent, depths);
-    holes::all_holes(width, height, side1, parent, tally, work_a);
-    Answer::Done
+    holes::all_holes(Size { width, height }, side1, parent, tally, work_a);
+    Ok(())
 }

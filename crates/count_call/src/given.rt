@@ -1,4 +1,5 @@
 // What is judged before tables are filled from a drawing.
+// The tables stay parameters: a struct of lent tables was tried, and proves less (docs/DECISIONS.md, "The code's forms").
 ghost use Rattle.std.specs.Prelude.{◌≡◌};
 ghost use Rattle.paper.specs.Refusal.{seven};
 ghost use Rattle.answer.specs.Answer.{told};
@@ -6,7 +7,7 @@ ghost use Rattle.table_lengths.specs.Given.{tables, works};
 ghost use Rattle.table_lengths.specs.Lengths.{lengths};
 ghost use Rattle.count_call.specs.Tally.{judged};
 
-use answer::Answer;
+use answer::Refusal;
 use check_call::check;
 
 // Judges a size, the lengths of the tables to be filled, by name and by dart, and the drawing: refusals 1, 4 and 5. The tables
@@ -27,7 +28,7 @@ pub(crate) fn judge(
     work_b: &mut [u16],
     work_c: &mut [u16],
     work_d: &mut [u16],
-) -> Answer
+) -> Result<(), Refusal>
     ensures { told result
         (seven
         (tables next1.now side1.now next3.now other3.now parent.now
@@ -39,10 +40,7 @@ pub(crate) fn judge(
         (lengths width height by_name.now by_dart.now)
         (works work_a.old work_b.old work_c.old work_d.old) }
 {
-    let sized = check_answer::refusal(width, height, by_name, by_dart);
-    if sized.number() != 0 {
-        return sized;
-    }
+    check_answer::refusal(width, height, by_name, by_dart)?;
     check::check(
         width, height, next1, side1, next3, other3, parent, cells, borders, work_a, work_b, work_c,
         work_d,

@@ -1,3 +1,4 @@
+// The tables stay parameters: a struct of lent tables was tried, and proves less (docs/DECISIONS.md, "The code's forms").
 ghost use Rattle.std.specs.Prelude.{◌≡◌, [], ◌∷◌, ◌++◌};
 ghost use Rattle.paper.specs.Refusal.{seven};
 ghost use Rattle.answer.specs.Answer.{told};
@@ -5,8 +6,9 @@ ghost use Rattle.table_lengths.specs.Given.{tables, works};
 ghost use Rattle.count_call.specs.Tally.{traced};
 
 use crate::given;
-use answer::Answer;
+use answer::Refusal;
 use count_turns::turns;
+use sheet_size::Size;
 
 // The right turns and the left turns of every dart of level 3, taken strictly inside its run to the next kept point; the mark at
 // every other slot. The two tables are by dart, as long as those of links. Refusals 1, 4 and 5, which leave them; the work tables
@@ -27,7 +29,7 @@ pub fn turns(
     work_b: &mut [u16],
     work_c: &mut [u16],
     work_d: &mut [u16],
-) -> Answer
+) -> Result<(), Refusal>
     ensures { told result
         (seven
         (tables next1.now side1.now next3.now other3.now parent.now
@@ -41,8 +43,7 @@ pub fn turns(
         left.old
         (works work_a.old work_b.old work_c.old work_d.old) }
 {
-    let by_name: [usize; 0] = [];
-    let answer = given::judge(
+    given::judge(
         width,
         height,
         next1,
@@ -52,16 +53,13 @@ pub fn turns(
         parent,
         cells,
         borders,
-        &by_name,
+        &[],
         &[right.len(), left.len()],
         work_a,
         work_b,
         work_c,
         work_d,
-    );
-    if answer.number() != 0 {
-        return answer;
-    }
-    turns::all_turns(width, height, next1, next3, other3, right, left);
-    Answer::Done
+    )?;
+    turns::all_turns(Size { width, height }, next1, next3, other3, right, left);
+    Ok(())
 }

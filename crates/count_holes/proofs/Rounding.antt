@@ -18,7 +18,6 @@ use Rattle.laws.specs.Table.{table, count}
 use Rattle.laws.proofs.Count.{count_le}
 use Rattle.laws.proofs.Table.{length_table, get_or_table}
 use Rattle.point_darts.specs.Dart.{mark, dart}
-use Rattle.paper.specs.Joining.{at}
 use Rattle.table_entries.proofs.Entries.{at_in, at_end, set_cases}
 use Rattle.count_holes.specs.Round.{round_at, pieces, Sized}
 

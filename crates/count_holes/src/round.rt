@@ -30,12 +30,10 @@ pub fn pieces_of(side: &[u16], tops: &[u16], name: u16) -> u16
 {
     let last = (tops.len() - 1) as u16;
     let mut count: u16 = 0;
-    let mut p: u16 = 0;
-    while p < last {
+    for p in 0..last {
         let round = round_at(side, tops, p);
         let one: u16 = if round == name { 1 } else { 0 };
         count += one;
-        p += 1;
     }
     count
 }
@@ -48,10 +46,8 @@ pub fn all_pieces(side: &[u16], tops: &[u16], tally: &mut [u16])
     entry::clear(tally);
     let n = tally.len();
     let last = (tops.len() - 1) as u16;
-    let mut p: u16 = 0;
-    while p < last {
+    for p in 0..last {
         let round = round_at(side, tops, p) as usize;
-        p += 1;
         if round < n {
             tally[round] += 1;
         }

@@ -1,8 +1,8 @@
 -- Turns taken on the way along a table x of next.
 --   taken_by x d     == the turn that is taken from dart d into the next that x has for it
 --   turns_to n x e is d == how many turns that pass the test is are taken from dart d on, before x leads to the dart e
---   Going n x e s i r l d a == of the turns from dart s on, n steps far, r to the right and l to the left are counted; the rest
---                      are those from dart d on, i steps far, and a is next of d
+--   Going n x e s i r l d a == of the turns from dart s on, n steps far, r to the right and l to the left are counted in i steps;
+--                      the rest are those from dart d on, and a is next of d
 use mathlib.Core.Path.{◌≡◌, refl, sym, ap, ◌∙◌}
 use mathlib.Core.Bool.{Bool, true, false, cond}
 use mathlib.Core.List.{List}
@@ -65,38 +65,40 @@ module _ (x : List ℕ) (e : ℕ) (is : Turn → Bool) where
 
 -- On the way.
 pub record Going (n : ℕ) (x : List ℕ) (e s i r l d a : ℕ) : Type 0 where
-  pub right : r + turns_to i x e is_right d ≡ turns_to n x e is_right s
-  pub left : l + turns_to i x e is_left d ≡ turns_to n x e is_left s
+  pub right : r + turns_to (n - i) x e is_right d ≡ turns_to n x e is_right s
+  pub left : l + turns_to (n - i) x e is_left d ≡ turns_to n x e is_left s
   pub after : a ≡ at x d
 
 module _ (n : ℕ) (x : List ℕ) (e s : ℕ) where
-  pub going_none : (a : ℕ) → a ≡ at x s → Going n x e s n 0 0 s a
-  going_none a p = record { right = omega arith; left = omega arith; after = p }
+  pub going_none : (a : ℕ) → a ≡ at x s → Going n x e s 0 0 0 s a
+  going_none a p =
+      let z : n - 0 ≡ n = omega arith in
+      record { right = rw z (omega arith); left = rw z (omega arith); after = p }
 
   module _ (i r l d a : ℕ) (g : Going n x e s i r l d a) where
     -- the end is reached
     pub going_stop : a ≡ e → (r ≡ turns_to n x e is_right s) × (l ≡ turns_to n x e is_left s)
     going_stop q = (
-      omega (arith, g.right, turns_stop x e is_right i d a g.after q),
-      omega (arith, g.left, turns_stop x e is_left i d a g.after q),
+      omega (arith, g.right, turns_stop x e is_right (n - i) d a g.after q),
+      omega (arith, g.left, turns_stop x e is_left (n - i) d a g.after q),
     )
 
     -- no step is left
-    pub going_out : i ≤ 0 → (r ≡ turns_to n x e is_right s) × (l ≡ turns_to n x e is_left s)
+    pub going_out : n ≤ i → (r ≡ turns_to n x e is_right s) × (l ≡ turns_to n x e is_left s)
     going_out h =
-        let z : i ≡ 0 = omega arith in
+        let z : n - i ≡ 0 = omega arith in
         (omega (arith, rw z at g.right, turns_none x e is_right d), omega (arith, rw z at g.left, turns_none x e is_left d))
 
     -- one step more, with the turn v
-    module _ (h : 0 < i) (q : a ≢ e) (v : Turn) (f : v ≡ turning (mask (on x) (point a)) (direction d)) where
-      one : i ≡ suc (i - 1)
+    module _ (h : i < n) (q : a ≢ e) (v : Turn) (f : v ≡ turning (mask (on x) (point a)) (direction d)) where
+      one : n - i ≡ suc (n - (i + 1))
       one = omega arith
 
-      right_on : (j : ℕ) → j ≡ number (is_right v) → r + j + turns_to (i - 1) x e is_right a ≡ turns_to n x e is_right s
-      right_on j t = omega (arith, rw one at g.right, turns_go x e is_right (i - 1) d a g.after q v f j t)
+      right_on : (j : ℕ) → j ≡ number (is_right v) → r + j + turns_to (n - (i + 1)) x e is_right a ≡ turns_to n x e is_right s
+      right_on j t = omega (arith, rw one at g.right, turns_go x e is_right (n - (i + 1)) d a g.after q v f j t)
 
-      left_on : (k : ℕ) → k ≡ number (is_left v) → l + k + turns_to (i - 1) x e is_left a ≡ turns_to n x e is_left s
-      left_on k u = omega (arith, rw one at g.left, turns_go x e is_left (i - 1) d a g.after q v f k u)
+      left_on : (k : ℕ) → k ≡ number (is_left v) → l + k + turns_to (n - (i + 1)) x e is_left a ≡ turns_to n x e is_left s
+      left_on k u = omega (arith, rw one at g.left, turns_go x e is_left (n - (i + 1)) d a g.after q v f k u)
 
       -- no more turns than steps
       pub right_fits : (j : ℕ) → j ≡ number (is_right v) → r + j ≤ n
@@ -106,7 +108,7 @@ module _ (n : ℕ) (x : List ℕ) (e s : ℕ) where
       left_fits k u = omega (arith, left_on k u, turns_most x e is_left n s)
 
       pub going_more : (j k b : ℕ) → j ≡ number (is_right v) → k ≡ number (is_left v) → b ≡ at x a
-          → Going n x e s (i - 1) (r + j) (l + k) a b
+          → Going n x e s (i + 1) (r + j) (l + k) a b
       going_more j k b t u p = record { right = right_on j t; left = left_on k u; after = p }
 
 -- Whether the other of a dart is met before it.

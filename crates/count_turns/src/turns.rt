@@ -1,8 +1,7 @@
 // The right turns and the left turns of each dart of level 3, on its run to the next kept point. The points where a run starts
 // and ends are left out.
-ghost use Rattle.std.specs.Prelude.{◌≡◌, true, length};
+ghost use Rattle.std.specs.Prelude.{◌≡◌, length};
 ghost use Rattle.laws.specs.Table.{number};
-ghost use Rattle.sheet_size.specs.Size.{within};
 ghost use Rattle.point_darts.specs.Dart.{slots, point, direction};
 ghost use Rattle.point_rules.specs.Turn.{turning, is_right, is_left};
 ghost use Rattle.paper.specs.Level.{mask};
@@ -13,6 +12,7 @@ use point_darts::dart;
 use point_darts::dart::Dart;
 use point_rules::turn;
 use point_rules::turn::Turn;
+use sheet_size::Size;
 use table_entries::{entry, present};
 
 // How many right turns and left turns a run takes.
@@ -65,8 +65,7 @@ fn run(steps: u16, next: &[u16], start: u16, end: u16) -> Turns
     let mut left: u16 = 0;
     let mut dart = start;
     let mut after = entry::get(next, start);
-    let mut rest = steps;
-    while 0 < rest {
+    for _ in 0..steps {
         if after == end {
             return Turns { right, left };
         }
@@ -75,7 +74,6 @@ fn run(steps: u16, next: &[u16], start: u16, end: u16) -> Turns
         left += one.left;
         dart = after;
         after = entry::get(next, after);
-        rest -= 1;
     }
     Turns { right, left }
 }
@@ -126,27 +124,24 @@ fn turns_at(
 // The right turns and the left turns of every dart of level 3; the mark at every other slot. A run is gone once, from the end
 // that is met first, so every line is passed once.
 pub fn all_turns(
-    width: u16,
-    height: u16,
+    size: Size,
     next1: &[u16],
     next3: &[u16],
     other3: &[u16],
     right: &mut [u16],
     left: &mut [u16],
 )
-    requires { (within width height ≡ true) × (length next1.now ≡ slots width height) ×
-        (length right.old ≡ slots width height) × (length left.old ≡ slots width height) }
+    requires { (length next1.now ≡ slots size.width size.height) ×
+        (length right.old ≡ slots size.width size.height) × (length left.old ≡ slots size.width size.height) }
     ensures { (right.new ≡
-        turn_table width height next1.now next3.now other3.now is_right is_left) ×
+        turn_table size.width size.height next1.now next3.now other3.now is_right is_left) ×
         (left.new ≡
-        turn_table width height next1.now next3.now other3.now is_left is_right) }
+        turn_table size.width size.height next1.now next3.now other3.now is_left is_right) }
 {
-    let n = dart::slots(width, height);
-    let mut d: u16 = 0;
-    while d < n {
+    let n = dart::slots(size);
+    for d in 0..n {
         let turns = turns_at(n, next1, next3, other3, right, left, d);
         right[d as usize] = turns.right;
         left[d as usize] = turns.left;
-        d += 1;
     }
 }

@@ -7,13 +7,12 @@ use native.Mathlib.Omega.{arith}
 use lib.ListN.{length, get_or, take, drop, length-append, length-replicate, get_or-append, get_or-replicate}
 use lib.Seq.{slice, take_at, drop_at, take-append-add}
 use Rattle.deck_card.specs.Card.{columns, places, long, blank, feed, digit, digits, padded, card}
-use Rattle.deck_card.proofs.Table.{get_d_past}
+use Rattle.deck_card.proofs.Table.{get_or_past}
 
 -- Digits.
-pub digit_less : (n k : ℕ) → 0 < k → digit (n / 10) (k - 1) ≡ digit n k
+pub digit_less : (n a i : ℕ) → i < a → digit (n / 10) (a - (i + 1)) ≡ digit n (a - i)
 unfolding digit
-digit_less n zero h = absurd (omega arith)
-digit_less n (suc k) h = let e : suc k - 1 ≡ k = omega arith in rw e
+digit_less n a i h = let e : a - i ≡ suc (a - (i + 1)) = omega arith in rw e
 
 pub length_digits : (k n : ℕ) → length (digits k n) ≡ k
 unfolding digits
@@ -50,11 +49,11 @@ module _ (k : ℕ) (c : List ℕ) (fits : length c ≤ columns) where
   pub card_blank : (i : ℕ) → length c ≤ i → i < columns → get_or (card k c) i 0 ≡ blank
   unfolding padded
   card_blank i h b =
-      card_front i b ∙ get_d_past c _ i h ∙ get_or-replicate (columns - length c) (i - length c) blank 0 (omega arith)
+      card_front i b ∙ get_or_past c _ i h ∙ get_or-replicate (columns - length c) (i - length c) blank 0 (omega arith)
 
   card_back : (i : ℕ) → columns ≤ i → get_or (card k c) i 0 ≡ get_or (digits places k ++ (feed ∷ [])) (i - columns) 0
   unfolding card
-  card_back i h = get_d_past (padded c) _ i (rw length_padded h) ∙ rw length_padded
+  card_back i h = get_or_past (padded c) _ i (rw length_padded h) ∙ rw length_padded
 
   -- a column of the number
   pub card_digit : (i : ℕ) → columns ≤ i → i < columns + places
@@ -68,7 +67,7 @@ module _ (k : ℕ) (c : List ℕ) (fits : length c ≤ columns) where
   unfolding long
   card_feed i h b =
       let e : i - columns - length (digits places k) ≡ 0 = omega (arith, length_digits places k) in
-      card_back i (omega arith) ∙ get_d_past (digits places k) _ (i - columns) (rw length_digits (omega arith)) ∙ rw e
+      card_back i (omega arith) ∙ get_or_past (digits places k) _ (i - columns) (rw length_digits (omega arith)) ∙ rw e
 
   -- its content's columns, and those of its number
   pub card_columns : slice 0 columns (card k c) ≡ padded c

@@ -1,31 +1,24 @@
 -- Tests that go along a list.
 --   every p (drop i l) == the entries from i on pass the test p
 --   equal (slice i e l) (slice i e m) == the lists l and m have the same entries from i up to e
-use mathlib.Core.Path.{◌≡◌, refl}
-use mathlib.Core.Bool.{Bool, true, false, and-false}
+use mathlib.Core.Path.{◌≡◌, refl, ap}
+use mathlib.Core.Bool.{Bool, true, ◌&&◌}
 use mathlib.Core.List.{List, [], ◌∷◌, ◌++◌}
 use Prim.Native.Nat.{ℕ, zero, suc, ◌+◌, ◌≤◌, ◌<◌}
 use native.Mathlib.Nat.{le_refl}
 use native.Mathlib.Numerals.{add-one}
 use native.Mathlib.Omega.{arith}
-use lib.Dec.{leb}
+use lib.Dec.{eqb, leb}
 use lib.ListN.{length, get_or, take, drop, replicate}
 use lib.Seq.{slice, slice-cons, slice_empty}
-use borrow.Author.Tests.{eq-eqb, ne_eqb, le-leb, lt-leb, leb-true}
+use borrow.Author.Tests.{le-leb, leb-true}
+use Rattle.std.specs.List.{list_all, range_with_len}
 use Rattle.laws.specs.Equal.{equal}
 use Rattle.laws.specs.Every.{every}
 use Rattle.laws.proofs.Test.{and_left, and_right}
 use Rattle.deck_card.specs.Card.{blank, lowest, highest, from_to, visible}
 
 -- A test of a range.
-pub from_to_below : (a b n : ℕ) → n < a → from_to a b n ≡ false
-unfolding from_to
-from_to_below a b n h = rw (lt-leb a n h)
-
-pub from_to_above : (a b n : ℕ) → b < n → from_to a b n ≡ false
-unfolding from_to
-from_to_above a b n h = rw (lt-leb n b h) (and-false (leb a n))
-
 pub from_to_inside : (a b n : ℕ) → a ≤ n → n ≤ b → from_to a b n ≡ true
 unfolding from_to
 from_to_inside a b n h k = rw (le-leb a n h, le-leb n b k)
@@ -36,21 +29,15 @@ visible_most n e = leb-true n highest (and_right (leb lowest n) (leb n highest) 
 
 -- The lists l and m, both at least e long, from i up to e.
 module _ (l m : List ℕ) (e : ℕ) (h : e ≤ length l) (k : e ≤ length m) where
-  -- entries that differ
-  pub equal_stop : (i : ℕ) → i < e → (get_or l i 0 ≡ get_or m i 0 → ⊥) → equal (slice i e l) (slice i e m) ≡ false
+  -- n places, from i on, are tested one by one
+  pub all_equal : (n i : ℕ) → i + n ≡ e
+      → list_all (λ p. eqb (get_or l p 0) (get_or m p 0)) (range_with_len i n) ≡ equal (slice i e l) (slice i e m)
   unfolding equal
-  equal_stop i b n = rw (slice-cons i e l 0 b h, slice-cons i e m 0 b k, ne_eqb _ _ n)
-
-  -- entries that are equal: the rest decides
-  pub equal_go : (i : ℕ) → i < e → get_or l i 0 ≡ get_or m i 0
-      → equal (slice (i + 1) e l) (slice (i + 1) e m) ≡ equal (slice i e l) (slice i e m)
-  unfolding equal
-  equal_go i b q = rw (slice-cons i e l 0 b h, slice-cons i e m 0 b k, eq-eqb _ _ q, add-one)
-
--- nothing is left to compare
-pub equal_end : (l m : List ℕ) (e i : ℕ) → i ≡ e → equal (slice i e l) (slice i e m) ≡ true
-unfolding equal
-equal_end l m e i q = rw (q, slice_empty e l, slice_empty e m)
+  all_equal zero i q = let f : i ≡ e = omega arith in rw (f, slice_empty e l, slice_empty e m)
+  all_equal (suc n) i q =
+      let b : i < e = omega arith in
+      rw (slice-cons i e l 0 b h, slice-cons i e m 0 b k)
+      (ap (λ c. eqb (get_or l i 0) (get_or m i 0) && c) (rw add-one (all_equal n (suc i) (omega arith))))
 
 -- Parts of a list whose entries all pass, and two such lists.
 pub every_take : (p : ℕ → Bool) (n : ℕ) (l : List ℕ) → every p l ≡ true → every p (take n l) ≡ true

@@ -10,7 +10,10 @@ use lib.ListN.{length, get_or, take}
 use lib.Seq.{length-take-le}
 use borrow.Author.Tests.{eqb-true, eq-eqb, leb-true, le-leb}
 use Rattle.laws.proofs.Test.{and_left, and_right}
+use Rattle.std.specs.Prelude.{Option, None, Some, is_some}
+use Rattle.deck_card.specs.declared.answer.PartRefusal.{PartRefusal}
 use Rattle.deck_card.specs.Card.{columns, places, long, feed, whole, measured, part, part_refusal}
+use Rattle.deck_card.specs.Outcome.{part_number}
 
 -- A width that a card can hold.
 pub record Measured (w : ℕ) : Type 0 where
@@ -28,6 +31,16 @@ measured_is w e =
 pub is_measured : (w : ℕ) → 1 ≤ w → w ≤ columns → measured w ≡ true
 unfolding measured
 is_measured w h k = rw (le-leb 1 w h, le-leb w columns k)
+
+-- A refusal's number is not 0.
+pub number_some : (r : Option PartRefusal) → is_some r ≡ true → part_number r ≡ 0 → ⊥
+number_some None s e = cc
+number_some (Some PartRefusal.Width) s e = omega arith
+number_some (Some PartRefusal.Card) s e = omega arith
+
+pub number_none : (r : Option PartRefusal) → is_some r ≡ false → part_number r ≡ 0
+number_none None s = refl
+number_none (Some r) s = cc
 
 -- Bytes that are 80 and a line feed.
 pub record Whole (c : List ℕ) : Type 0 where

@@ -30,7 +30,7 @@ part_slice (suc a) (suc e) [] = take-nil (suc e - suc a)
 part_slice (suc a) (suc e) (x ∷ l) = rw (suc-sub-suc) (part_slice a e l)
 
 -- an entry past the first of two lists
-pub get_d_past : (l m : List ℕ) (i : ℕ) → length l ≤ i → get_or (l ++ m) i 0 ≡ get_or m (i - length l) 0
-get_d_past l m i h =
+pub get_or_past : (l m : List ℕ) (i : ℕ) → length l ≤ i → get_or (l ++ m) i 0 ≡ get_or m (i - length l) 0
+get_or_past l m i h =
     let e : length l + (i - length l) ≡ i = omega arith in
     ap (λ j. get_or (l ++ m) j 0) (sym e) ∙ get_or-append-add l m (i - length l) 0

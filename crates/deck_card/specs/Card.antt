@@ -13,7 +13,8 @@
 --   measured w      == w is how many cells a card can hold: 1 to 72
 --   part w c        == the first w bytes of c where w is so many cells and c is whole, else nothing
 --   part_refusal w c == 1 or 20 where the part is empty for that reason, in this order, else 0
-use Rattle.std.specs.Prelude.{Bool, cond, ◌&&◌, List, [], ◌∷◌, ◌++◌, ℕ, zero, suc, ◌+◌, ◌-◌, ◌/◌, ◌%◌, eqb, leb, length, get_or, take, replicate}
+use Rattle.std.specs.Prelude.{Bool, cond, ◌&&◌, List, [], ◌∷◌, ◌++◌, ℕ, zero, suc, ◌+◌, ◌-◌, ◌/◌, ◌%◌}
+use Rattle.std.specs.Prelude.{eqb, leb, length, get_or, take, replicate}
 
 unfoldable pub columns : ℕ
 columns = 72

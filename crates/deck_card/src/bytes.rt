@@ -11,18 +11,16 @@ pub fn digit(number: u16, after: usize) -> u8
     ensures { result ≡ digit number after }
 {
     let mut rest = number;
-    let mut left = after;
-    while 0 < left {
-        rest = rest / 10;
-        left = left - 1;
+    for _ in 0..after {
+        rest /= 10;
     }
     48 + (rest % 10) as u8
 }
 
 // The byte at a place of the card with a number and a content.
 fn byte(content: &[u16], number: u16, place: usize) -> u8
-    requires content_len_bound { (length content.now ≤ columns) × ((i : ℕ) → get_or content.now i 0 < 256) }
-    requires place_lt_long { place < long }
+    requires content_fits { (length content.now ≤ columns) × ((i : ℕ) → get_or content.now i 0 < 256) }
+    requires on_card { place < long }
     ensures { result ≡ get_or (card number content.now) place 0 }
 {
     if place < content.len() {
@@ -39,30 +37,21 @@ fn byte(content: &[u16], number: u16, place: usize) -> u8
 
 // Whether the bytes from one place up to another are those of the card with a number and a content.
 pub fn agrees(bytes: &[u8], content: &[u16], number: u16, from: usize, to: usize) -> bool
-    requires content_len_bound { (length content.now ≤ columns) × ((i : ℕ) → get_or content.now i 0 < 256) }
-    requires from_le_to { (from ≤ to) × ((to ≤ length bytes.now) × (to ≤ long)) }
+    requires content_fits { (length content.now ≤ columns) × ((i : ℕ) → get_or content.now i 0 < 256) }
+    requires columns_there { (from ≤ to) × ((to ≤ length bytes.now) × (to ≤ long)) }
     ensures { result ≡ equal (slice from to bytes.now) (slice from to (card number content.now)) }
 {
-    let mut i = from;
-    while i < to {
-        if bytes[i] != byte(content, number, i) {
-            return false;
-        }
-        i += 1;
-    }
-    true
+    (from..to).all(|place| bytes[place] == byte(content, number, place))
 }
 
 // Writes the card with a number and a content.
 pub fn put(bytes: &mut [u8], content: &[u16], number: u16)
-    requires content_len_bound { (length content.now ≤ columns) × ((i : ℕ) → get_or content.now i 0 < 256) }
-    requires bytes_len { length bytes.old ≡ long }
+    requires content_fits { (length content.now ≤ columns) × ((i : ℕ) → get_or content.now i 0 < 256) }
+    requires one_card { length bytes.old ≡ long }
     ensures { bytes.new ≡ card number content.now }
 {
-    let mut i = 0;
-    while i < bytes.len() {
-        bytes[i] = byte(content, number, i);
-        i += 1;
+    for place in 0..bytes.len() {
+        bytes[place] = byte(content, number, place);
     }
 }
 
@@ -70,15 +59,5 @@ pub fn put(bytes: &mut [u8], content: &[u16], number: u16)
 pub fn all_between(bytes: &[u8], low: u8, high: u8) -> bool
     ensures { result ≡ every (from_to low high) bytes.now }
 {
-    let mut i = 0;
-    while i < bytes.len() {
-        if bytes[i] < low {
-            return false;
-        }
-        if high < bytes[i] {
-            return false;
-        }
-        i += 1;
-    }
-    true
+    bytes.iter().all(|byte| (low..=high).contains(byte))
 }

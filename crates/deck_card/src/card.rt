@@ -1,5 +1,8 @@
 ghost use Rattle.std.specs.Prelude.{◌≡◌};
 ghost use Rattle.deck_card.specs.Card.{whole, part, part_refusal};
+ghost use Rattle.deck_card.specs.Outcome.{part_number};
+
+use crate::answer::PartRefusal;
 
 // Columns 1 to 72 hold a card's content.
 pub const COLUMNS: usize = 72;
@@ -29,33 +32,29 @@ pub fn whole(bytes: &[u8]) -> bool
     bytes[COLUMNS + PLACES] == FEED
 }
 
-// The number of the refusal for which a part is empty: 1 where the width, how many cells this card holds, is not 1 to 72, 20
-// where the card is not 80 bytes and a line feed, in this order; else 0.
-pub fn part_refusal(width: u16, card: &[u8]) -> u16
-    ensures { result ≡ part_refusal width card.now }
+// Why the part of a card is empty: the width, how many cells this card holds, is not 1 to 72, or the card is not 80 bytes and a
+// line feed, in this order; else none.
+#[tactic(auto, unfolding(crate::specs::Card::columns, crate::specs::Card::measured, crate::specs::Card::part_refusal))]
+pub fn part_refusal(width: u16, card: &[u8]) -> Option<PartRefusal>
+    ensures { part_number result ≡ part_refusal width card.now }
 {
-    let cells = width as usize;
-    if cells < 1 {
-        return 1;
-    }
-    if COLUMNS < cells {
-        return 1;
+    if !(1..=COLUMNS).contains(&(width as usize)) {
+        return Some(PartRefusal::Width);
     }
     if !whole(card) {
-        return 20;
+        return Some(PartRefusal::Card);
     }
-    0
+    None
 }
 
 // The part of a lent card that holds its cells: its first bytes, as many as the width says. A row wider than a card has two
-// cards, each with a width of its own. The part is empty exactly where part_refusal gives a number. Empty or not, it begins
+// cards, each with a width of its own. The part is empty exactly where part_refusal tells a refusal. Empty or not, it begins
 // where the card begins: ptr is where a slice begins.
 pub fn part<'a>(width: u16, card: &'a [u8]) -> &'a [u8]
     ensures { (result.now ≡ part width card.now) × (result.ref_ptr ≡ card.entry.ref_ptr) }
 {
-    if part_refusal(width, card) != 0 {
+    if part_refusal(width, card).is_some() {
         return &card[..0];
     }
-    let cells = width as usize;
-    &card[..cells]
+    &card[..width as usize]
 }

@@ -13,6 +13,9 @@ use Rattle.laws.specs.Equal.{equal}
 use Rattle.laws.proofs.Test.{and_left}
 use Rattle.sheet_size.specs.Size.{within}
 use Rattle.laws.specs.Every.{every}
+use Rattle.deck_card.specs.declared.answer.Fault.{Fault}
+use Rattle.deck_card.specs.Outcome.{fault_number}
+use Rattle.deck_card.proofs.Outcomes.{fault_some}
 use Rattle.deck_card.specs.Card.{columns, places, blank, from_to, visible, card, whole}
 use Rattle.deck_layout.specs.Layout.{heading}
 use Rattle.deck_card.proofs.Cards.{card_columns, card_number}
@@ -48,9 +51,10 @@ module _ (c : List ℕ) where
   unfolding headed
   headed_is = rw (card_columns 1 (heading (width c) (height c)) (heading_fits _ _))
 
-  pub header_formed : (form 1 c ≡ 0 → ⊥) → form 1 c ≡ header c
+  -- a fault of its form
+  pub header_formed : (f : Fault) → fault_number f ≡ form 1 c → fault_number f ≡ header c
   unfolding header
-  header_formed n = or_else_some _ _ n
+  header_formed f e = e ∙ or_else_some _ _ (rw (← e) (fault_some f))
 
   pub header_is : form 1 c ≡ 0 → header c ≡ cond (headed c) 0 21
   unfolding header
@@ -74,9 +78,10 @@ module _ (c : List ℕ) where
 
 -- The card numbered k, with w cells.
 module _ (w k : ℕ) (c : List ℕ) where
-  pub row_formed : (form k c ≡ 0 → ⊥) → form k c ≡ row w k c
+  -- a fault of its form
+  pub row_formed : (f : Fault) → fault_number f ≡ form k c → fault_number f ≡ row w k c
   unfolding row
-  row_formed n = or_else_some _ _ n
+  row_formed f e = e ∙ or_else_some _ _ (rw (← e) (fault_some f))
 
   pub row_form : row w k c ≡ 0 → form k c ≡ 0
   unfolding row

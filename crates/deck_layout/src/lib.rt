@@ -1,11 +1,11 @@
 // How a sheet is laid out on cards: which columns its header has, how many cards hold its rows, and how many cells each.
 #![tactic(auto)]
 
-ghost use Rattle.std.specs.Prelude.{◌≡◌, true};
-ghost use Rattle.sheet_size.specs.Size.{within};
+ghost use Rattle.std.specs.Prelude.{◌≡◌};
 ghost use Rattle.deck_layout.specs.Layout.{wide, heading, row_cards, held};
 
 use deck_card::{bytes, card};
+use sheet_size::Size;
 
 // The greatest width of a row that takes one card.
 const NARROW: u16 = card::COLUMNS as u16;
@@ -13,6 +13,7 @@ const NARROW: u16 = card::COLUMNS as u16;
 const BLANK: u16 = card::BLANK as u16;
 
 // Whether rows of a width take two cards each.
+#[tactic(auto, unfolding(deck_card::specs::Card::columns, crate::specs::Layout::wide))]
 fn wide(width: u16) -> bool
     ensures { result ≡ wide width }
 {
@@ -20,14 +21,19 @@ fn wide(width: u16) -> bool
 }
 
 // How many cards hold the rows of a sheet.
-pub fn row_cards(width: u16, height: u16) -> u16
-    requires { within width height ≡ true }
-    ensures { result ≡ row_cards width height }
+#[tactic(auto, using(sheet_size::proofs::Limit::within_limits), unfolding(crate::specs::Layout::row_cards))]
+pub fn row_cards(size: Size) -> u16
+    ensures { result ≡ row_cards size.width size.height }
 {
-    if wide(width) { 2 * height } else { height }
+    if wide(size.width) {
+        2 * size.height
+    } else {
+        size.height
+    }
 }
 
 // How many cells the card with a number holds on a sheet of a width. A wide row begins on a card with an even number.
+#[tactic(auto, unfolding(deck_card::specs::Card::columns, crate::specs::Layout::wide, crate::specs::Layout::held))]
 pub fn held(width: u16, number: u16) -> u16
     ensures { result ≡ held width number }
 {
@@ -40,8 +46,8 @@ pub fn held(width: u16, number: u16) -> u16
     width - NARROW
 }
 
-// Columns 1 to 11 of the header of a sheet: SHEET, a blank, two digits each for the width and the height, and a blank; of a
-// wide sheet SHEET2, three digits for the width and two for the height.
+// Columns 1 to 11 of the header that names a width and a height, which need be no size: SHEET, a blank, two digits each for the
+// width and the height, and a blank; of wide rows SHEET2, three digits for the width and two for the height.
 pub fn heading(width: u16, height: u16) -> [u16; 11]
     ensures { result ≡ heading width height }
 {

@@ -8,19 +8,20 @@ use mathlib.Core.List.{List, ◌++◌, append_assoc, append-nil}
 use Prim.Native.Nat.{ℕ, zero, suc, ◌+◌, ◌*◌, ◌-◌, ◌≤◌, ◌<◌}
 use native.Mathlib.Numerals.{add-one, sub-one}
 use native.Mathlib.Omega.{arith}
-use lib.ListN.{length, take, drop, replicate, length-append}
+use lib.ListN.{length, take, drop, replicate, length-append, length-drop, drop_of_length-le}
 use lib.Seq.{paste, length-paste, take-paste, take-length, length-take-le}
 use Rattle.sheet_size.specs.Size.{within}
 use Rattle.point_darts.proofs.Fit.{cells_fit}
-use Rattle.deck_card.specs.declared.answer.Read.TheVariants.{Sheet}
 use Rattle.deck_card.specs.Card.{long, part}
+use Rattle.deck_card.specs.Outcome.{Sheet}
 use Rattle.deck_card.proofs.Parts.{whole_is, part_held}
+use Rattle.deck_card.proofs.Table.{rest_all}
 use Rattle.deck_layout.specs.Layout.{row_cards, held}
 use Rattle.deck_layout.proofs.Sizes.{held_measured, held_most, sum, sum_all}
 use Rattle.deck_faults.specs.Fault.{row}
 use Rattle.deck_faults.proofs.Forms.{form_none, row_form}
 use Rattle.deck_reading.specs.Judging.{rows}
-use Rattle.deck_reading.proofs.Answers.{rows_next, row-whole}
+use Rattle.deck_reading.proofs.Verdicts.{rows_next, row_whole}
 use Rattle.deck_reading.specs.Reading.{room, cells, filled}
 
 -- Cards of a sheet of width w and height h, k the number of the first.
@@ -78,7 +79,7 @@ module _ (w h : ℕ) (size : within w h ≡ true) (goal table rest : List ℕ) (
   -- the next card is whole
   pub filling_whole : (n : ℕ) → 0 < n → Filling w h goal table rest n k from → long ≤ length rest
   filling_whole zero p f = absurd (omega arith)
-  filling_whole (suc n) p f = row-whole w h k rest (rows_next w h n k w h rest f.sound).0
+  filling_whole (suc n) p f = row_whole w h k rest (rows_next w h n k w h rest f.sound).0
 
   -- the next card's cells are copied
   pub filling_more : (n : ℕ) → 0 < n → (f : Filling w h goal table rest n k from)
@@ -122,3 +123,10 @@ module _ (w h : ℕ) (size : within w h ≡ true) (goal table rest : List ℕ) (
       let b = filling_within zero f in
       rw (← g, length-take-le from table b, f.length_is)
   filling_end (suc n) p f = absurd (omega arith)
+
+-- a part of the table from a place on, set to 0, as it comes back
+pub cleared : (from : ℕ) (l m : List ℕ) → m ≡ replicate (length (take (length l - from) (drop from l))) 0
+    → take from l ++ (m ++ drop (length l - from) (drop from l)) ≡ take from l ++ replicate (length l - from) 0
+cleared from l m e =
+    let n = length-drop from l in
+    rw (e, rest_all from l, drop_of_length-le (drop from l) {i = length l - from} (omega arith), append-nil, n)

@@ -1,6 +1,5 @@
-pub mod Answers
-mod Cleared
 pub mod Filling
 pub mod One
 mod Outcomes
+pub mod Verdicts
 mod Worked

@@ -25,7 +25,7 @@ use Rattle.sheet_size.specs.Size.{within}
 use Rattle.deck_card.specs.Card.{columns, places, long, blank, feed, from_to, lowest, highest, visible, digit, digits, padded, card}
 use Rattle.deck_card.specs.Card.{whole, measured, part}
 use Rattle.deck_layout.specs.Layout.{wide, laid, heading, row_cards, held}
-use Rattle.deck_card.specs.Outcome.{DeckOutcome, read_outcome, write_outcome}
+use Rattle.deck_card.specs.Outcome.{DeckOutcome, verdict_outcome, write_outcome}
 use Rattle.deck_faults.specs.Fault.{or_else, bears, form, value, wide_form, width, height, headed, header, row}
 use Rattle.deck_writing.specs.Writing.{row_deck, deck_of, deck_length, written, bytes_after, writing}
 use Rattle.deck_reading.specs.Judging.{stopped, rows, judged}
@@ -117,7 +117,7 @@ unfolding equal every within columns places long blank feed from_to lowest highe
 cards_open = tt
 
 decks_open : Unit {0}
-unfolding measured part wide laid heading row_cards held read_outcome write_outcome
+unfolding measured part wide laid heading row_cards held verdict_outcome write_outcome
 decks_open = tt
 
 faults_open : Unit {0}

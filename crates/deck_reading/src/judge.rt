@@ -1,63 +1,45 @@
-ghost use Rattle.std.specs.Prelude.{◌≡◌, true, take};
-ghost use Rattle.sheet_size.specs.Size.{within};
+ghost use Rattle.std.specs.Prelude.{◌≡◌, take};
 ghost use Rattle.deck_card.specs.Card.{long};
+ghost use Rattle.deck_card.specs.Outcome.{verdict};
 ghost use Rattle.deck_layout.specs.Layout.{row_cards};
 ghost use Rattle.deck_reading.specs.Judging.{rows, judged};
 
-use deck_card::answer::Read;
+use deck_card::answer::{Fault, ReadRefusal};
 use deck_card::card::LONG;
 use deck_faults::{header, row};
+use sheet_size::Size;
 
 // The first card of the bytes that are left: the next 81 of them, or all.
 pub fn next(rest: &[u8]) -> &[u8]
     ensures { result.now ≡ take long rest.now }
 {
-    if rest.len() < LONG {
-        return rest;
-    }
-    &rest[..LONG]
+    &rest[..LONG.min(rest.len())]
 }
 
-// The answer to the bytes after the header.
-fn rows(deck: &[u8], width: u16, height: u16) -> Read
-    requires { within width height ≡ true }
-    ensures { result ≡ rows width height (row_cards width height) 2 deck.now }
+// The answer to the bytes after the header of a sheet of a size.
+fn rows(deck: &[u8], size: Size) -> Result<Size, ReadRefusal>
+    ensures { verdict result ≡ rows size.width size.height (row_cards size.width size.height) 2 deck.now }
 {
+    let end = deck_layout::row_cards(size) + 2;
     let mut rest = deck;
-    let mut left = deck_layout::row_cards(width, height);
-    let mut number: u16 = 2;
-    while 0 < left {
-        let refusal = row::refusal(next(rest), deck_layout::held(width, number), number);
-        if refusal != 0 {
-            return Read::Refused {
-                number: refusal,
-                card: number,
-            };
-        }
+    for card in 2..end {
+        let held = deck_layout::held(size.width, card);
+        row::refusal(next(rest), held, card).map_err(|fault| ReadRefusal { fault, card })?;
         rest = &rest[LONG..];
-        left = left - 1;
-        number = number + 1;
     }
-    if 0 < rest.len() {
-        return Read::Refused {
-            number: 25,
-            card: number,
-        };
+    if !rest.is_empty() {
+        return Err(ReadRefusal {
+            fault: Fault::End,
+            card: end,
+        });
     }
-    Read::Sheet { width, height }
+    Ok(size)
 }
 
 // The answer to the bytes of a deck: the size of its sheet, or the first refusal, card by card.
-pub fn judged(deck: &[u8]) -> Read
-    ensures { result ≡ judged deck.now }
+pub fn judged(deck: &[u8]) -> Result<Size, ReadRefusal>
+    ensures { verdict result ≡ judged deck.now }
 {
-    let card = next(deck);
-    let refusal = header::refusal(card);
-    if refusal != 0 {
-        return Read::Refused {
-            number: refusal,
-            card: 1,
-        };
-    }
-    rows(&deck[LONG..], header::width(card), header::height(card))
+    let size = header::size(next(deck)).map_err(|fault| ReadRefusal { fault, card: 1 })?;
+    rows(&deck[LONG..], size)
 }

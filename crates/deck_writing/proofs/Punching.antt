@@ -13,7 +13,8 @@ use lib.ListN.{length, get_or, take, drop, length-append, length-drop}
 use lib.Seq.{length-take-le, take_all, take_at, drop-drop}
 use borrow.Author.Tests.{eq-eqb, ne_eqb}
 use Rattle.sheet_size.specs.Size.{within}
-use Rattle.deck_card.specs.declared.answer.Written.TheVariants.{Done, Size, Sheet, Deck, Label}
+use Rattle.std.specs.Prelude.{Ok, Err}
+use Rattle.deck_card.specs.declared.answer.WriteRefusal.TheVariants.{Size, Sheet, Deck, Label}
 use Rattle.laws.specs.Every.{every}
 use Rattle.deck_card.specs.Card.{columns, long, visible, card}
 use Rattle.deck_card.specs.Outcome.{write_outcome}
@@ -112,26 +113,26 @@ module _ (w h : ℕ) (size : within w h ≡ true) (goal deck rest : List ℕ) (k
 
 -- The outcome of writing a sheet s of width w and height h into the bytes t.
 module _ (w h : ℕ) (s t : List ℕ) where
-  pub writing_size : within w h ≡ false → write_outcome Size t ≡ writing w h s t
+  pub writing_size : within w h ≡ false → write_outcome (Err Size) t ≡ writing w h s t
   unfolding written bytes_after writing
   writing_size e = rw e
 
-  pub writing_sheet : within w h ≡ true → (length s ≡ w * h → ⊥) → write_outcome Sheet t ≡ writing w h s t
+  pub writing_sheet : within w h ≡ true → (length s ≡ w * h → ⊥) → write_outcome (Err Sheet) t ≡ writing w h s t
   unfolding written bytes_after writing
   writing_sheet e n = rw (e, ne_eqb _ _ n)
 
   pub writing_deck : within w h ≡ true → length s ≡ w * h → (length t ≡ deck_length w h → ⊥)
-      → write_outcome Deck t ≡ writing w h s t
+      → write_outcome (Err Deck) t ≡ writing w h s t
   unfolding written bytes_after writing
   writing_deck e q n = rw (e, eq-eqb _ _ q, ne_eqb _ _ n)
 
   pub writing_label : within w h ≡ true → length s ≡ w * h → length t ≡ deck_length w h → every visible s ≡ false
-      → write_outcome Label t ≡ writing w h s t
+      → write_outcome (Err Label) t ≡ writing w h s t
   unfolding written bytes_after writing
   writing_label e q p v = rw (e, eq-eqb _ _ q, eq-eqb _ _ p, v)
 
   pub writing_done : within w h ≡ true → length s ≡ w * h → length t ≡ deck_length w h → every visible s ≡ true
-      → write_outcome Done (deck_of w h s) ≡ writing w h s t
+      → write_outcome (Ok tt) (deck_of w h s) ≡ writing w h s t
   unfolding written bytes_after writing
   writing_done e q p v = rw (e, eq-eqb _ _ q, eq-eqb _ _ p, v)
 

@@ -5,10 +5,10 @@
 --   written w h s n == the writer's answer, where n bytes are lent for the deck
 --   bytes_after r d t == what the bytes t are after the answer r, d the sheet's deck
 --   writing w h s t == the outcome of writing the sheet s into the bytes t
-use Rattle.std.specs.Prelude.{cond, List, [], ◌++◌, ℕ, zero, suc, ◌+◌, ◌*◌, eqb, length, take, drop}
+use Rattle.std.specs.Prelude.{cond, List, [], ◌++◌, ℕ, zero, suc, ◌+◌, ◌*◌, eqb, length, take, drop, Result, Ok, Err}
 use Rattle.sheet_size.specs.Size.{within}
-use Rattle.deck_card.specs.declared.answer.Written.{Written}
-use Rattle.deck_card.specs.declared.answer.Written.TheVariants.{Done, Size, Sheet, Deck, Label}
+use Rattle.deck_card.specs.declared.answer.WriteRefusal.{WriteRefusal}
+use Rattle.deck_card.specs.declared.answer.WriteRefusal.TheVariants.{Size, Sheet, Deck, Label}
 use Rattle.laws.specs.Every.{every}
 use Rattle.deck_card.specs.Card.{long, visible, card}
 use Rattle.deck_card.specs.Outcome.{DeckOutcome, write_outcome}
@@ -24,23 +24,20 @@ deck_of w h s = card 1 (heading w h) ++ row_deck w (row_cards w h) 2 s
 unfoldable pub deck_length : ℕ → ℕ → ℕ
 deck_length w h = long * (row_cards w h + 1)
 
-unfoldable pub written : ℕ → ℕ → List ℕ → ℕ → Written
+unfoldable pub written : ℕ → ℕ → List ℕ → ℕ → Result (Unit {0}) WriteRefusal
 written w h s n =
     cond (within w h)
     (cond (eqb (length s) (w * h))
     (cond (eqb n (deck_length w h))
-    (cond (every visible s) Done
-    Label)
-    Deck)
-    Sheet)
-    Size
+    (cond (every visible s) (Ok tt)
+    (Err Label))
+    (Err Deck))
+    (Err Sheet))
+    (Err Size)
 
-unfoldable pub bytes_after : Written → List ℕ → List ℕ → List ℕ
-bytes_after Done d t = d
-bytes_after Size d t = t
-bytes_after Sheet d t = t
-bytes_after Deck d t = t
-bytes_after Label d t = t
+unfoldable pub bytes_after : Result (Unit {0}) WriteRefusal → List ℕ → List ℕ → List ℕ
+bytes_after (Ok done) d t = d
+bytes_after (Err refusal) d t = t
 
 unfoldable pub writing : ℕ → ℕ → List ℕ → List ℕ → DeckOutcome
 writing w h s t =

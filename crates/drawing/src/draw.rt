@@ -1,6 +1,6 @@
-ghost use Rattle.std.specs.Prelude.{◌≡◌, true};
+// The tables stay parameters: a struct of lent tables was tried, and proves less (docs/DECISIONS.md, "The code's forms").
+ghost use Rattle.std.specs.Prelude.{IfOk, ◌≡◌, true};
 ghost use Rattle.laws.specs.First.{first_failed};
-ghost use Rattle.sheet_size.specs.Size.{within};
 ghost use Rattle.paper.specs.Drawing.{drawing};
 ghost use Rattle.paper.specs.Refusal.{cleared, seven, stated, draw_tests, mapped};
 ghost use Rattle.answer.specs.Answer.{number_of, told};
@@ -9,39 +9,41 @@ ghost use Rattle.table_lengths.specs.Lengths.{lengths};
 ghost use Rattle.drawing.specs.Parts.{Framed};
 
 use crate::parts;
-use answer::Answer;
+use answer::Refusal;
 use region_names::names;
+use sheet_size::Size;
 use table_entries::entry;
 
-// What the whole drawing answers to a size, the length of the sheet, and the lengths of the tables by name and by dart.
+// What the whole drawing answers to a width and a height, the length of the sheet, and the lengths of the tables by name and by dart.
+#[tactic(auto, unfolding(answer::specs::Answer::number_of, paper::specs::Refusal::draw_tests, laws::specs::First::first_failed))]
 pub fn refusal(
     width: u16,
     height: u16,
     sheet: usize,
     by_name: &[usize],
     by_dart: &[usize],
-) -> Answer
-    ensures { number_of result ≡
+) -> Result<Size, Refusal>
+    ensures number { number_of result ≡
         first_failed
         (draw_tests width height sheet (lengths width height by_name.now by_dart.now)) }
+    ensures size { IfOk result (λ size. (size.width ≡ width) × (size.height ≡ height)) }
 {
-    if !sheet_size::within(width, height) {
-        return Answer::Size;
-    }
+    let Some(size) = Size::new(width, height) else {
+        return Err(Refusal::Size);
+    };
     if sheet != (width * height) as usize {
-        return Answer::Sheet;
+        return Err(Refusal::Sheet);
     }
-    if !table_lengths::stated(width, height, by_name, by_dart) {
-        return Answer::Tables;
+    if !table_lengths::stated(size, by_name, by_dart) {
+        return Err(Refusal::Tables);
     }
-    Answer::Done
+    Ok(size)
 }
 
 // The seven tables of a sheet from its names with the outside round them, which stand at the front of work_b. The work
 // tables come out cleared.
 pub fn draw_names(
-    width: u16,
-    height: u16,
+    size: Size,
     next1: &mut [u16],
     side1: &mut [u16],
     next3: &mut [u16],
@@ -54,23 +56,22 @@ pub fn draw_names(
     work_c: &mut [u16],
     work_d: &mut [u16],
 )
-    requires { (within width height ≡ true) ×
-        (stated width height
+    requires { (stated size.width size.height
         (tables next1.old side1.old next3.old other3.old parent.old cells.old borders.old)
         (works work_a.old work_b.old work_c.old work_d.old) ≡ true) ×
-        Framed width height work_b.old }
-    ensures { ((f : Framed width height work_b.old) →
+        Framed size.width size.height work_b.old }
+    ensures { ((f : Framed size.width size.height work_b.old) →
         tables next1.new side1.new next3.new other3.new parent.new
-        cells.new borders.new ≡ drawing width height f.labels) ×
+        cells.new borders.new ≡ drawing size.width size.height f.labels) ×
         (works work_a.new work_b.new work_c.new work_d.new ≡
         cleared
         (works work_a.old work_b.old work_c.old work_d.old)) }
 {
-    parts::draw_lines(width, height, work_b, work_a, next1, side1);
-    parts::draw_totals(width, height, work_b, cells, borders, work_c);
-    parts::keep_points(width, height, side1, work_a, work_b, work_c);
-    parts::draw_curves(width, height, next1, work_c, next3, other3);
-    parts::draw_parents(width, height, side1, work_b, parent);
+    parts::draw_lines(size, work_b, work_a, next1, side1);
+    parts::draw_totals(size, work_b, cells, borders, work_c);
+    parts::keep_points(size, side1, work_a, work_b, work_c);
+    parts::draw_curves(size, next1, work_c, next3, other3);
+    parts::draw_parents(size, side1, work_b, parent);
     entry::clear_four(work_a, work_b, work_c, work_d);
 }
 
@@ -91,7 +92,7 @@ pub fn draw(
     work_b: &mut [u16],
     work_c: &mut [u16],
     work_d: &mut [u16],
-) -> Answer
+) -> Result<(), Refusal>
     ensures { told result
         (seven
         (tables next1.new side1.new next3.new other3.new parent.new
@@ -102,7 +103,7 @@ pub fn draw(
         cells.old borders.old)
         (works work_a.old work_b.old work_c.old work_d.old) }
 {
-    let answer = refusal(
+    let size = refusal(
         width,
         height,
         sheet.len(),
@@ -117,14 +118,10 @@ pub fn draw(
             work_c.len(),
             work_d.len(),
         ],
-    );
-    if answer.number() != 0 {
-        return answer;
-    }
-    names::name_cells(width, height, sheet, work_a, work_b);
+    )?;
+    names::name_cells(size, sheet, work_a, work_b);
     draw_names(
-        width, height, next1, side1, next3, other3, parent, cells, borders, work_a, work_b, work_c,
-        work_d,
+        size, next1, side1, next3, other3, parent, cells, borders, work_a, work_b, work_c, work_d,
     );
-    Answer::Done
+    Ok(())
 }

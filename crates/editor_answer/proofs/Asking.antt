@@ -3,13 +3,14 @@
 --   named k o p e a b == the number of the first test of the names a and b that is not passed, where k, the number before, is 0
 --   asked k ..      == the number after a check with the number k
 use mathlib.Core.Path.{◌≡◌, refl, sym, ◌∙◌}
-use mathlib.Core.Bool.{Bool, true, false, cond, not, ◌&&◌}
+use mathlib.Core.Bool.{Bool, true, false, cond, not, ◌&&◌, ◌||◌}
 use mathlib.Core.List.{List, [], ◌∷◌, ◌++◌}
 use mathlib.Core.Logic.{◌≢◌}
 use Prim.Native.Nat.{ℕ}
 use native.Mathlib.Omega.{arith}
 use lib.Dec.{eqb, lit<}
-use borrow.Author.Tests.{eqb-true, eq-eqb, ne_eqb, not-true, not-false}
+use borrow.Author.Tests.{eqb-true, eq-eqb, ne_eqb}
+use Rattle.std.specs.Prelude.{Result}
 use Rattle.laws.specs.First.{first_failed, numbered}
 use Rattle.laws.proofs.First.{all_passed, failed_append}
 use Rattle.laws.proofs.Test.{and_left, and_right}
@@ -17,7 +18,7 @@ use Rattle.point_darts.specs.Dart.{mark}
 use Rattle.paper.specs.Joining.{at, on}
 use Rattle.paper.specs.Refusal.{used, adjoin, name_tests, pair_tests}
 use Rattle.paper.specs.Editor.{both_tests, is_editor, owned, theirs, own_tests}
-use Rattle.answer.specs.declared.Answer.{Answer}
+use Rattle.answer.specs.declared.Refusal.{Refusal}
 use Rattle.answer.specs.Answer.{number_of}
 use Rattle.join_answer.specs.Asked as join
 use Rattle.join_answer.specs.Judge.{judged_or}
@@ -34,46 +35,18 @@ module _ (o p : List ℕ) (e r x : ℕ) (f : x ≡ at o r) where
   theirs_present q y g = rw (eq-eqb (at o r) e (sym f ∙ q), g)
 
 -- The tests of two names one after another: 6, 7, 10.
-module _ (o p : List ℕ) (k e a b : ℕ) where
-  pub named_refused : k ≢ 0 → k ≡ named k o p e a b
-  unfolding named
-  named_refused n = rw (ne_eqb k 0 n)
+pub named_failed : (k : ℕ) (o p : List ℕ) (e a b : ℕ) → named k o p e a b
+    ≡ cond (eqb k 0) (cond (not (eqb a 0 || eqb b 0)) (cond (not (eqb a b)) (cond (theirs o p e a && theirs o p e b) 0 10) 7) 6) k
+unfolding named first_failed
+named_failed k o p e a b = refl
 
-  module _ (z : k ≡ 0) where
-    pub named_first_outside : a ≡ 0 → 6 ≡ named k o p e a b
-    unfolding named first_failed
-    named_first_outside f = rw (eq-eqb k 0 z, eq-eqb a 0 f)
-
-    module _ (l : a ≢ 0) where
-      pub named_second_outside : b ≡ 0 → 6 ≡ named k o p e a b
-      unfolding named first_failed
-      named_second_outside f = rw (eq-eqb k 0 z, ne_eqb a 0 l, eq-eqb b 0 f)
-
-      module _ (m : b ≢ 0) where
-        pub named_equal : a ≡ b → 7 ≡ named k o p e a b
-        unfolding named first_failed
-        named_equal f = rw (eq-eqb k 0 z, ne_eqb a 0 l, ne_eqb b 0 m, eq-eqb a b f)
-
-        module _ (n : a ≢ b) (x : Bool) (f : x ≡ theirs o p e a) where
-          pub named_first_other : not x ≡ true → 10 ≡ named k o p e a b
-          unfolding named first_failed
-          named_first_other g =
-              rw (eq-eqb k 0 z, ne_eqb a 0 l, ne_eqb b 0 m, ne_eqb a b n, sym f ∙ not-true x g)
-
-          module _ (g : not x ≡ false) (y : Bool) (h : y ≡ theirs o p e b) where
-            pub named_second_other : not y ≡ true → 10 ≡ named k o p e a b
-            unfolding named first_failed
-            named_second_other i =
-                rw (eq-eqb k 0 z, ne_eqb a 0 l, ne_eqb b 0 m, ne_eqb a b n, sym f ∙ not-false x g, sym h ∙ not-true y i)
-
-            pub named_done : not y ≡ false → 0 ≡ named k o p e a b
-            unfolding named first_failed
-            named_done i =
-                rw (eq-eqb k 0 z, ne_eqb a 0 l, ne_eqb b 0 m, ne_eqb a b n, sym f ∙ not-false x g, sym h ∙ not-false y i)
+pub named_refused : (k : ℕ) (o p : List ℕ) (e a b : ℕ) → k ≢ 0 → k ≡ named k o p e a b
+unfolding named
+named_refused k o p e a b n = rw (ne_eqb k 0 n)
 
 -- After a check with the number k: j is the number once the editor is judged, that of v the number once the names are.
 module _ (o p : List ℕ) (k e a b j : ℕ) (q : j ≡ judged_or k (is_editor e && owned o) 11)
-    (v : Answer) (f : number_of v ≡ named j o p e a b) where
+    (v : Result (Unit {0}) Refusal) (f : number_of v ≡ named j o p e a b) where
   abbrev tests : List (Bool × ℕ)
   tests = both_tests (theirs o p e) 10 a b
 

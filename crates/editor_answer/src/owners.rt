@@ -4,6 +4,7 @@ ghost use Rattle.sheet_size.specs.Size.{within};
 ghost use Rattle.paper.specs.Editor.{is_editor, owned};
 
 // Whether a number is that of an editor.
+#[tactic(auto, unfolding(paper::specs::Editor::is_editor))]
 fn is_editor(number: u16) -> bool
     ensures { result ≡ is_editor number }
 {
@@ -16,10 +17,8 @@ pub fn are_owned(owners: &[u16]) -> bool
     ensures { result ≡ owned owners.now }
 {
     let mut right = true;
-    let mut i = 1;
-    while i < owners.len() {
+    for i in 1..owners.len() {
         right = right & is_editor(owners[i]);
-        i += 1;
     }
     right
 }

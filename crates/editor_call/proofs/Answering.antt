@@ -10,7 +10,8 @@ use Prim.Native.Nat.{ℕ, zero, suc, ◌+◌, ◌*◌}
 use native.Mathlib.Omega.{arith}
 use lib.Dec.{eqb}
 use lib.ListN.{length}
-use borrow.Author.Tests.{eqb-true, eqb-false, ne_eqb, not-true, not-false}
+use borrow.Author.Tests.{eqb-true, eqb-false, ne_eqb, not-false}
+use Rattle.std.specs.Prelude.{Result, Ok, Err}
 use Rattle.laws.specs.First.{first_failed}
 use Rattle.laws.proofs.First.{failed_from}
 use Rattle.laws.proofs.Test.{or_neither}
@@ -21,7 +22,7 @@ use Rattle.paper.specs.Refusal.{ended, outcome, work_left, cleared, seven, state
 use Rattle.paper.specs.Sitting.{Joinable}
 use Rattle.paper.specs.Editor.{call, is_editor, owned, lent, own_tests, call_tests, reply, after, edited}
 use Rattle.paper_laws.proofs.Editors.{own_numbered, own_joinable}
-use Rattle.answer.specs.declared.Answer.{Answer}
+use Rattle.answer.specs.declared.Refusal.{Refusal}
 use Rattle.answer.specs.Answer.{number_of, told}
 use Rattle.answer.proofs.Outcome.{work_cleared, told_early}
 use Rattle.table_lengths.specs.Given.{works}
@@ -51,7 +52,7 @@ module _ (w h : ℕ) (o : List ℕ) (t : Tables) (e a b : ℕ) (ws : List (List 
   abbrev number : ℕ
   number = reply w h o t (call e a b ws)
 
-  abbrev Promised : Answer → Tables → List (List ℕ) → Type 0
+  abbrev Promised : Result (Unit {0}) Refusal → Tables → List (List ℕ) → Type 0
   Promised r u xs =
       (told r (seven u) xs ≡ edited w h o t (call e a b ws)) × (number_of r ≡ 0 → Faithful w h t u a b)
 
@@ -67,23 +68,24 @@ module _ (w h : ℕ) (o : List ℕ) (t : Tables) (e a b : ℕ) (ws : List (List 
 
   module _ (x : Bool) (f : x ≡ (not (within w h) || eqb (length o) (w * h + 1))) where
     -- there are not as many owners as names
-    short : not x ≡ true → number ≡ 4
+    short : x ≡ false → number ≡ 4
     unfolding reply call_tests size_tests lent first_failed
     short n =
-        let (p, q) = or_neither (not (within w h)) (eqb (length o) (w * h + 1)) (sym f ∙ not-true x n) in
+        let (p, q) = or_neither (not (within w h)) (eqb (length o) (w * h + 1)) (sym f ∙ n) in
         rw (not-false (within w h) p, q)
 
-    pub owners_stop : not x ≡ true → Promised Answer.Tables t ws
+    pub owners_stop : x ≡ false → Promised (Err Refusal.Tables) t ws
     unfolding number_of
     owners_stop n = (
-      told_early Answer.Tables number (sym (short n)) (λ z. omega (arith, z)) (rw (short n) (omega arith)) [] (seven t)
+      told_early (Err Refusal.Tables) number (sym (short n)) (λ z. omega (arith, z)) (rw (short n) (omega arith)) [] (seven t)
           (seven (joined w h t a b)) ws
           ∙ any_join,
       λ z. absurd (omega (arith, z)),
     )
 
     -- After a check that answered v and left the work tables vs, where r is answered.
-    module _ (y : not x ≡ false) (vs : List (List ℕ)) (v : Answer) (c : told v (seven t) vs ≡ checked w h t ws) (r : Answer)
+    module _ (y : x ≡ true) (vs : List (List ℕ)) (v : Result (Unit {0}) Refusal) (c : told v (seven t) vs ≡ checked w h t ws)
+        (r : Result (Unit {0}) Refusal)
         (g : number_of r ≡ asked (number_of v) w h o t.side1 t.parent e a b) where
       abbrev names : List (Bool × ℕ)
       names = own_tests w h o t.side1 t.parent e a b
@@ -96,7 +98,7 @@ module _ (w h : ℕ) (o : List ℕ) (t : Tables) (e a b : ℕ) (ws : List (List 
       unfolding reply call_tests size_tests given_tests lent
       number_after =
           tests (within w h) (stated w h t ws) (eqb (length o) (w * h + 1)) (is_editor e && owned o) (is_drawing w h t) names
-          (sym f ∙ not-false x y)
+          (sym f ∙ y)
 
       told_number : number_of r ≡ number
       unfolding asked
@@ -141,7 +143,7 @@ module _ (w h : ℕ) (o : List ℕ) (t : Tables) (e a b : ℕ) (ws : List (List 
         asked_ready = join_ready w h t a b ws vs v c number work joins r told_number z
 
         pub asked_joined : (c d e f x y : List ℕ) → vs ≡ works c d e f → (u : Tables) → u ≡ joined w h t a b
-            → pair x y ≡ cleared (pair c d) → Promised Answer.Done u (works x y e f)
+            → pair x y ≡ cleared (pair c d) → Promised (Ok tt) u (works x y e f)
         asked_joined k l m n x₁ y₁ s u i j =
             let (p, q) = join_done w h t a b ws vs v c number work joins r told_number z k l m n x₁ y₁ s u i j in
             (p ∙ any_join, q)

@@ -2,14 +2,14 @@
 --   started w h s o t ws == the outcome of starting the sheet s with the owners o in the tables t
 --   start_tests ..   == its tests
 use mathlib.Core.Path.{◌≡◌, refl, sym, ap, ◌∙◌}
-use mathlib.Core.Bool.{Bool, true, false, not, ◌&&◌}
+use mathlib.Core.Bool.{Bool, true, false, ◌&&◌}
 use mathlib.Core.List.{List, [], ◌∷◌, ◌++◌, map}
 use mathlib.Core.Logic.{◌≢◌}
 use Prim.Native.Nat.{ℕ, ◌+◌, ◌*◌, ◌≤◌, ◌<◌}
 use native.Mathlib.Omega.{arith}
 use lib.Dec.{eqb, lit<}
 use lib.ListN.{length}
-use borrow.Author.Tests.{not-true, not-false}
+use Rattle.std.specs.Prelude.{Result}
 use Rattle.laws.specs.Every.{every}
 use Rattle.laws.specs.First.{first_failed, numbered}
 use Rattle.laws.proofs.First.{Passed, all_passed, none_left, failed_here, failed_later, passed_append, stopped_append}
@@ -18,33 +18,31 @@ use Rattle.point_darts.specs.Dart.{slots}
 use Rattle.paper.specs.Drawing.{Tables, drawing}
 use Rattle.paper.specs.Refusal.{outcome, cleared, seven, stated, draw_tests, draw_refusal, mapped}
 use Rattle.paper.specs.Editor.{owned, lent, start_tests, started}
-use Rattle.answer.specs.declared.Answer.{Answer}
+use Rattle.answer.specs.declared.Refusal.{Refusal}
 use Rattle.answer.specs.Answer.{number_of, told}
 use Rattle.answer.proofs.Outcome.{work_cleared, told_refused, told_early}
 use Rattle.table_lengths.specs.Lengths.{all_are, lengths}
 use Rattle.table_lengths.proofs.Tested.{by_name, by_dart, stated_lengths}
 use Rattle.drawing.proofs.Refusing.{draw_numbered}
 
--- The owners, after what the whole drawing answers, v.
-module _ (w h n : ℕ) (k : Bool) (o : List ℕ) (v : Answer) (e : number_of v ≡ first_failed (draw_tests w h n k)) where
+-- The owners, after what the whole drawing answers, k.
+module _ (w h n : ℕ) (l : Bool) (o : List ℕ) where
   abbrev last : List (Bool × ℕ)
   last = (owned o, 11) ∷ []
 
-  pub start_refused : number_of v ≢ 0 → number_of v ≡ first_failed (draw_tests w h n k ++ last)
-  start_refused z =
-      e ∙ sym (stopped_append 1 5 (lit< tt) (draw_tests w h n k) last (draw_numbered w h n k) (λ q. z (e ∙ q)))
+  pub start_refused : (k : ℕ) → k ≡ first_failed (draw_tests w h n l) → k ≢ 0 → k ≡ first_failed (draw_tests w h n l ++ last)
+  start_refused k e z =
+      e ∙ sym (stopped_append 1 5 (lit< tt) (draw_tests w h n l) last (draw_numbered w h n l) (λ q. z (e ∙ q)))
 
-  module _ (z : number_of v ≡ 0) (x : Bool) (f : x ≡ owned o) where
-    goes_on : first_failed (draw_tests w h n k ++ last) ≡ first_failed last
-    goes_on = passed_append 1 5 (lit< tt) (draw_tests w h n k) last (draw_numbered w h n k) (sym e ∙ z)
+  module _ (e : 0 ≡ first_failed (draw_tests w h n l)) where
+    goes_on : first_failed (draw_tests w h n l ++ last) ≡ first_failed last
+    goes_on = passed_append 1 5 (lit< tt) (draw_tests w h n l) last (draw_numbered w h n l) (sym e)
 
-    pub start_unowned : not x ≡ true → number_of Answer.Editor ≡ first_failed (draw_tests w h n k ++ last)
-    unfolding number_of
-    start_unowned i = sym (goes_on ∙ failed_here _ 11 [] (sym f ∙ not-true x i))
+    pub start_unowned : false ≡ owned o → 11 ≡ first_failed (draw_tests w h n l ++ last)
+    start_unowned i = sym (goes_on ∙ failed_here _ 11 [] (sym i))
 
-    pub start_owned : not x ≡ false → number_of Answer.Done ≡ first_failed (draw_tests w h n k ++ last)
-    unfolding number_of
-    start_owned i = sym (goes_on ∙ failed_later _ 11 [] (sym f ∙ not-false x i) ∙ none_left)
+    pub start_owned : true ≡ owned o → 0 ≡ first_failed (draw_tests w h n l ++ last)
+    start_owned i = sym (goes_on ∙ failed_later _ 11 [] (sym i) ∙ none_left)
 
 and_later : (a b c : Bool) → ((a && b) && c) ≡ (a && (b && c))
 and_later true b c = refl
@@ -73,13 +71,13 @@ module _ (w h : ℕ) (s o : List ℕ) (t : Tables) (ws : List (List ℕ)) where
   unfolding start_tests draw_tests draw_refusal lent first_failed
   draw_passed p = rw (p.0, p.1.0, and_right (eqb (length o) (w * h + 1)) (stated w h t ws) p.1.1.0)
 
-  module _ (r : Answer) (e : number_of r ≡ first_failed (draw_tests w h (length s) given ++ (owned o, 11) ∷ [])) where
+  module _ (r : Result (Unit {0}) Refusal) (e : number_of r ≡ first_failed (draw_tests w h (length s) given ++ (owned o, 11) ∷ [])) where
     told_number : number_of r ≡ number
     unfolding start_tests
     told_number = e ∙ ap (λ k. first_failed (draw_tests w h (length s) k ++ (owned o, 11) ∷ [])) given_lent
 
     -- nothing is refused: it is drawn
-    pub start_drawn : number_of r ≡ 0 → (q : Answer) (u : Tables) (vs : List (List ℕ))
+    pub start_drawn : number_of r ≡ 0 → (q : Result (Unit {0}) Refusal) (u : Tables) (vs : List (List ℕ))
         → told q (seven u) vs ≡ mapped w h s t ws → told q (seven u) vs ≡ started w h s o t ws
     unfolding mapped started
     start_drawn z q u vs f =

@@ -1,3 +1,4 @@
+// The tables stay parameters: a struct of lent tables was tried, and proves less (docs/DECISIONS.md, "The code's forms").
 ghost use Rattle.std.specs.Prelude.{◌≡◌};
 ghost use Rattle.paper.specs.Refusal.{seven};
 ghost use Rattle.paper.specs.Editor.{call, edited};
@@ -5,10 +6,11 @@ ghost use Rattle.answer.specs.Answer.{number_of, told};
 ghost use Rattle.table_lengths.specs.Given.{tables, works};
 ghost use Rattle.join_call.specs.Faithful.{Faithful};
 
-use answer::Answer;
+use answer::Refusal;
 use check_call::check;
 use editor_answer::{asked, owners};
 use join_rule::apply;
+use sheet_size::Size;
 
 // Joins the regions a and b of a drawing as one of its editors, in its seven tables, which come to equal the drawing afresh. The owners
 // are read, never written. Refusals 1, 4, for the owners too, 11 where the editor, or an owner, is neither 1 nor 2, 5, then 6 where a
@@ -32,7 +34,7 @@ pub fn join(
     work_b: &mut [u16],
     work_c: &mut [u16],
     work_d: &mut [u16],
-) -> Answer
+) -> Result<(), Refusal>
     ensures { (told result
         (seven
         (tables next1.new side1.new next3.new other3.new parent.new
@@ -53,18 +55,26 @@ pub fn join(
         b) }
 {
     if !owners::are_stated(width, height, owners.len()) {
-        return Answer::Tables;
+        return Err(Refusal::Tables);
     }
     let checked = check::check(
         width, height, next1, side1, next3, other3, parent, cells, borders, work_a, work_b, work_c,
         work_d,
     );
-    let answer = asked::asked(checked, width, height, owners, editor, side1, parent, a, b);
-    if answer.number() != 0 {
-        return answer;
-    }
+    asked::asked(checked, width, height, owners, editor, side1, parent, a, b)?;
     apply::apply(
-        width, height, a, b, next1, side1, next3, other3, parent, cells, borders, work_a, work_b,
+        Size { width, height },
+        a,
+        b,
+        next1,
+        side1,
+        next3,
+        other3,
+        parent,
+        cells,
+        borders,
+        work_a,
+        work_b,
     );
-    Answer::Done
+    Ok(())
 }

@@ -1,3 +1,4 @@
+// The tables stay parameters: a struct of lent tables was tried, and proves less (docs/DECISIONS.md, "The code's forms").
 ghost use Rattle.std.specs.Prelude.{◌≡◌, [], ◌∷◌, ◌++◌};
 ghost use Rattle.laws.specs.First.{first_failed};
 ghost use Rattle.paper.specs.Refusal.{seven, draw_tests};
@@ -6,7 +7,7 @@ ghost use Rattle.answer.specs.Answer.{number_of, told};
 ghost use Rattle.table_lengths.specs.Given.{tables, works};
 ghost use Rattle.table_lengths.specs.Lengths.{lengths};
 
-use answer::Answer;
+use answer::Refusal;
 use drawing::draw;
 use editor_answer::owners;
 use table_entries::entry;
@@ -19,21 +20,21 @@ fn refusal(
     owners: &[u16],
     by_name: &[usize],
     by_dart: &[usize],
-) -> Answer
+) -> Result<(), Refusal>
     ensures { number_of result ≡
         first_failed
         (draw_tests width height sheet (lengths width height by_name.now by_dart.now) ++
         (owned owners.now, 11) ∷ []) }
 {
-    let answer = draw::refusal(width, height, sheet, by_name, by_dart);
-    if answer.number() != 0 {
-        return answer;
-    }
+    draw::refusal(width, height, sheet, by_name, by_dart)?;
     if !owners::are_owned(owners) {
-        return Answer::Editor;
+        return Err(Refusal::Editor);
     }
-    Answer::Done
+    Ok(())
 }
+
+// Refusals up to this number leave the work tables; the paper says it of the numbers.
+const EARLY: u16 = 4;
 
 // Starts a drawing that two editors will share: draws a sheet, once every name from 1 to the number of cells, used or not, has an owner,
 // 1 or 2. Refusals 1, 3 and 4, for the owners too, then 11 where an owner is neither. A refusal leaves the seven tables as they are; the
@@ -54,7 +55,7 @@ pub fn start(
     work_b: &mut [u16],
     work_c: &mut [u16],
     work_d: &mut [u16],
-) -> Answer
+) -> Result<(), Refusal>
     ensures { told result
         (seven
         (tables next1.new side1.new next3.new other3.new parent.new
@@ -82,13 +83,13 @@ pub fn start(
             work_d.len(),
         ],
     );
-    if answer.number() == 0 {
+    if answer.is_ok() {
         return draw::draw(
             width, height, sheet, next1, side1, next3, other3, parent, cells, borders, work_a,
             work_b, work_c, work_d,
         );
     }
-    if 4 < answer.number() {
+    if EARLY < answer::number(answer) {
         entry::clear_four(work_a, work_b, work_c, work_d);
     }
     answer

@@ -9,13 +9,14 @@ use native.Mathlib.Decide.{dec_le}
 use native.Mathlib.Omega.{arith}
 use lib.Dec.{leb}
 use borrow.Author.Tests.{eq-eqb, ne_eqb, le-leb, lt-leb, not-true, not-false}
+use Rattle.std.specs.Prelude.{Err}
 use Rattle.laws.specs.First.{first_failed}
 use Rattle.laws.proofs.Test.{and_true}
 use Rattle.sheet_size.specs.Size.{within}
 use Rattle.paper.specs.Drawing.{Tables, is_drawing}
 use Rattle.paper.specs.Refusal.{stated, work_left, size_tests, given_tests}
 use Rattle.paper.specs.Order.{whole, list_tests}
-use Rattle.answer.specs.declared.Answer.{Answer}
+use Rattle.answer.specs.declared.Refusal.{Refusal}
 use Rattle.answer.specs.Answer.{number_of}
 use Rattle.answer.proofs.Outcome.{work_cleared}
 use Rattle.join_answer.specs.Judge.{judged, judged_or}
@@ -52,7 +53,7 @@ module _ (k m : ℕ) (e b : Bool) (p : m ≡ k) (q : e ≡ (leb 1 m && leb m 4))
   judged_early f = rw (sym early ∙ f)
 
   module _ (f : e ≡ false) (c : Bool) (g : c ≡ b) where
-    pub judged_list : not c ≡ true → number_of Answer.List ≡ judged k b
+    pub judged_list : not c ≡ true → number_of {T = Unit {0}} (Err Refusal.List) ≡ judged k b
     unfolding judged number_of
     judged_list n = rw (sym early ∙ f, sym g ∙ not-true c n)
 

@@ -7,56 +7,52 @@ ghost use Rattle.answer.specs.Answer.{number_of};
 ghost use Rattle.join_answer.specs.Asked.{asked};
 
 use crate::adjoin;
-use answer::Answer;
+use answer::Refusal;
 use point_darts::dart;
+use sheet_size::Size;
 use table_entries::entry;
 
 // What joining answers to two names, by the parents of the drawing: done where both are regions and differ.
-#[tactic(auto, using(crate::proofs::Naming::named_second_outside), unfolding(answer::specs::Answer::number_of))]
-pub fn check_names(parent: &[u16], a: u16, b: u16) -> Answer
+#[tactic(auto, using(crate::proofs::Asking::names_failed), unfolding(answer::specs::Answer::number_of, point_darts::specs::Dart::mark))]
+pub fn check_names(parent: &[u16], a: u16, b: u16) -> Result<(), Refusal>
     ensures { number_of result ≡ first_failed (name_tests parent.now a b) }
 {
     if a == 0 {
-        return Answer::Outside;
+        return Err(Refusal::Outside);
     }
     if b == 0 {
-        return Answer::Outside;
+        return Err(Refusal::Outside);
     }
     if a == b {
-        return Answer::Equal;
+        return Err(Refusal::Equal);
     }
     if entry::get(parent, a) == dart::MARK {
-        return Answer::Name;
+        return Err(Refusal::Name);
     }
     if entry::get(parent, b) == dart::MARK {
-        return Answer::Name;
+        return Err(Refusal::Name);
     }
-    Answer::Done
+    Ok(())
 }
 
 // What joining answers to two names after a check of the drawing: what the check refuses, or what is refused of the names,
-// comes first, then whether the two regions share a line.
+// comes first, then whether the two regions share a line. Width and height are known to be a size only where the check is passed.
 pub fn asked(
-    answer: Answer,
+    answer: Result<(), Refusal>,
     width: u16,
     height: u16,
     side: &[u16],
     parent: &[u16],
     a: u16,
     b: u16,
-) -> Answer
+) -> Result<(), Refusal>
     requires { number_of answer ≡ 0 → (within width height ≡ true) × (length side.now ≡ slots width height) }
     ensures { number_of result ≡ asked answer width height side.now parent.now a b }
 {
-    if answer.number() != 0 {
-        return answer;
+    answer?;
+    check_names(parent, a, b)?;
+    if !adjoin::adjoin(Size { width, height }, side, a, b) {
+        return Err(Refusal::Apart);
     }
-    let named = check_names(parent, a, b);
-    if named.number() != 0 {
-        return named;
-    }
-    if !adjoin::adjoin(width, height, side, a, b) {
-        return Answer::Apart;
-    }
-    Answer::Done
+    Ok(())
 }

@@ -4,7 +4,7 @@ ghost use Rattle.paper.specs.Order.{whole};
 ghost use Rattle.answer.specs.Answer.{number_of};
 ghost use Rattle.join_answer.specs.Judge.{judged, judged_or};
 
-use answer::Answer;
+use answer::Refusal;
 
 // The greatest width of the form that has a card a row, and the most pairs of a list for such sheets and for wide ones.
 const CARD: u16 = 72;
@@ -14,6 +14,7 @@ const PAIRS: usize = 5183;
 const WIDE_PAIRS: usize = 7919;
 
 // Whether a list of so many names may be lent: it is one of pairs, and not too long for a sheet of this width.
+#[tactic(auto, unfolding(paper::specs::Order::whole))]
 fn is_whole(width: u16, length: usize) -> bool
     ensures { result ≡ whole width length }
 {
@@ -26,7 +27,7 @@ fn is_whole(width: u16, length: usize) -> bool
     length <= 2 * WIDE_PAIRS
 }
 
-// Whether a refusal is one of the first: its number is 1 to 4.
+// Whether a refusal is one of the first: its number is 1 to 4. It is asked of the number, since that is how the paper says it.
 fn is_early(number: u16) -> bool
     ensures { result ≡ leb 1 number && leb number 4 }
 {
@@ -38,10 +39,15 @@ fn is_early(number: u16) -> bool
 
 // What is answered after a check of the drawing where something else is judged too: whether it is right, and what is refused where it
 // is not. That comes after 4 and before 5.
-pub fn judged_or(checked: Answer, right: bool, refusal: Answer) -> Answer
+#[tactic(auto, unfolding(crate::specs::Judge::judged_or))]
+pub fn judged_or(
+    checked: Result<(), Refusal>,
+    right: bool,
+    refusal: Result<(), Refusal>,
+) -> Result<(), Refusal>
     ensures { number_of result ≡ judged_or (number_of checked) right (number_of refusal) }
 {
-    if is_early(checked.number()) {
+    if is_early(answer::number(checked)) {
         return checked;
     }
     if !right {
@@ -51,8 +57,9 @@ pub fn judged_or(checked: Answer, right: bool, refusal: Answer) -> Answer
 }
 
 // What is answered to a list of so many names after a check of the drawing: refusal 12 comes after 4 and before 5.
-pub fn judged(checked: Answer, width: u16, length: usize) -> Answer
+#[tactic(auto, unfolding(answer::specs::Answer::number_of, crate::specs::Judge::judged, crate::specs::Judge::judged_or))]
+pub fn judged(checked: Result<(), Refusal>, width: u16, length: usize) -> Result<(), Refusal>
     ensures { number_of result ≡ judged (number_of checked) (whole width length) }
 {
-    judged_or(checked, is_whole(width, length), Answer::List)
+    judged_or(checked, is_whole(width, length), Err(Refusal::List))
 }

@@ -9,6 +9,7 @@ use Prim.Native.Nat.{ℕ}
 use native.Mathlib.Omega.{arith}
 use lib.Dec.{eqb}
 use borrow.Author.Tests.{eqb-true, eqb-false, eq-eqb, ne_eqb}
+use Rattle.std.specs.Prelude.{Result, Ok}
 use Rattle.laws.specs.First.{first_failed}
 use Rattle.laws.proofs.First.{failed_from}
 use Rattle.paper.specs.Drawing.{Tables}
@@ -16,7 +17,7 @@ use Rattle.paper.specs.Joining.{joined}
 use Rattle.paper.specs.Refusal.{work_left, cleared, seven, size_tests, given_tests, name_tests, pair_tests, join_refusal, merged}
 use Rattle.paper.specs.Sitting.{Joinable}
 use Rattle.paper_laws.proofs.Order.{pair_numbered, passed_joinable}
-use Rattle.answer.specs.declared.Answer.{Answer}
+use Rattle.answer.specs.declared.Refusal.{Refusal}
 use Rattle.answer.specs.Answer.{number_of, told}
 use Rattle.answer.proofs.Outcome.{work_cleared}
 use Rattle.table_lengths.specs.Given.{works}
@@ -29,9 +30,10 @@ use Rattle.join_call.proofs.Doing.{join_stops, join_ready, join_done}
 
 -- Joining a and b in the tables t after a check that answered v and left the work tables vs, where the names are answered by o:
 -- what is promised of the tables u and the work tables xs that it leaves with the answer r.
-module _ (w h : ℕ) (t : Tables) (a b : ℕ) (ws vs : List (List ℕ)) (v : Answer) (c : told v (seven t) vs ≡ checked w h t ws)
-    (o : Answer) (e : number_of o ≡ asked v w h t.side1 t.parent a b) where
-  abbrev Promised : Answer → Tables → List (List ℕ) → Type 0
+module _ (w h : ℕ) (t : Tables) (a b : ℕ) (ws vs : List (List ℕ))
+    (v : Result (Unit {0}) Refusal) (c : told v (seven t) vs ≡ checked w h t ws)
+    (o : Result (Unit {0}) Refusal) (e : number_of o ≡ asked v w h t.side1 t.parent a b) where
+  abbrev Promised : Result (Unit {0}) Refusal → Tables → List (List ℕ) → Type 0
   Promised r u xs = (told r (seven u) xs ≡ merged w h t a b ws) × (number_of r ≡ 0 → Faithful w h t u a b)
 
   -- the tests of the names, after those of the check
@@ -101,6 +103,6 @@ module _ (w h : ℕ) (t : Tables) (a b : ℕ) (ws vs : List (List ℕ)) (v : Ans
     asked_ready = join_ready w h t a b ws vs v c (join_refusal w h t a b ws) asked_work both_open o asked_number z
 
     pub asked_joined : (c d e f x y : List ℕ) → vs ≡ works c d e f → (u : Tables) → u ≡ joined w h t a b
-        → pair x y ≡ cleared (pair c d) → Promised Answer.Done u (works x y e f)
+        → pair x y ≡ cleared (pair c d) → Promised (Ok tt) u (works x y e f)
     unfolding merged
     asked_joined = join_done w h t a b ws vs v c (join_refusal w h t a b ws) asked_work both_open o asked_number z

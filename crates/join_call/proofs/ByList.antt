@@ -3,19 +3,20 @@
 --   judged k b      == the number after a check with the number k, where b says that the list may be lent
 use mathlib.Core.Path.{◌≡◌, refl, sym, ap, ◌∙◌}
 use mathlib.Core.Bool.{Bool, true}
-use mathlib.Core.List.{List, [], ◌∷◌}
+use mathlib.Core.List.{List}
 use mathlib.Core.Logic.{◌≢◌}
 use Prim.Native.Nat.{ℕ, zero, suc}
 use native.Mathlib.Omega.{arith}
 use lib.Dec.{lit<}
 use lib.ListN.{length}
+use Rattle.std.specs.Prelude.{Result}
 use Rattle.laws.specs.First.{first_failed, numbered}
 use Rattle.laws.proofs.First.{Passed, all_passed}
 use Rattle.paper.specs.Drawing.{Tables}
 use Rattle.paper.specs.Refusal.{Outcome, ended, cleared, work_left, seven, size_tests, given_tests}
 use Rattle.paper.specs.Order.{Stop, pairs, whole, unless, joins, list_tests, list_stop, placed, merged_list}
 use Rattle.paper_laws.proofs.IsDrawing.{is_drawing_drawn}
-use Rattle.answer.specs.declared.Answer.{Answer}
+use Rattle.answer.specs.declared.Refusal.{Refusal}
 use Rattle.answer.specs.Answer.{number_of, told}
 use Rattle.answer.proofs.Outcome.{work_cleared}
 use Rattle.table_lengths.specs.Given.{works}
@@ -23,7 +24,7 @@ use Rattle.check_answer.specs.Check.{checked}
 use Rattle.check_answer.proofs.Given.{given_number, given_work}
 use Rattle.join_answer.specs.Judge.{judged}
 use Rattle.join_answer.proofs.Judging.{judged_tests, judged_work}
-use Rattle.join_list.specs.declared.each.Listed.{Listed}
+use Rattle.join_list.specs.declared.each.ListRefusal.{ListRefusal}
 use Rattle.join_list.specs.Answer.{list_number, list_values, listed}
 use Rattle.join_list.specs.Each.{Open, Ended}
 use Rattle.join_list.proofs.Ending.{joins_late}
@@ -34,15 +35,16 @@ abbrev reported : Stop → List (List ℕ) → Outcome
 reported s ws = ended s.number (placed s.number s.place) (seven s.tables) (work_left s.number ws)
 
 refused_first : (k : ℕ) (t : Tables) (s : Stop) (ws : List (List ℕ)) → k ≢ 0
-    → ended k (0 ∷ []) (seven t) (work_left k ws) ≡ reported (unless k 0 t s) ws
-unfolding unless placed
+    → ended k (placed k 0) (seven t) (work_left k ws) ≡ reported (unless k 0 t s) ws
+unfolding unless
 refused_first zero t s ws n = absurd (n refl)
 refused_first (suc k) t s ws n = refl
 
 -- Joining by the list l in the tables t after a check that answered v and left the work tables vs, where o is answered before the
 -- entries.
-module _ (w h : ℕ) (t : Tables) (l : List ℕ) (ws vs : List (List ℕ)) (v : Answer) (c : told v (seven t) vs ≡ checked w h t ws)
-    (o : Answer) (e : number_of o ≡ judged (number_of v) (whole w (length l))) where
+module _ (w h : ℕ) (t : Tables) (l : List ℕ) (ws vs : List (List ℕ))
+    (v : Result (Unit {0}) Refusal) (c : told v (seven t) vs ≡ checked w h t ws)
+    (o : Result (Unit {0}) Refusal) (e : number_of o ≡ judged (number_of v) (whole w (length l))) where
   abbrev tests : List (Bool × ℕ)
   tests = list_tests w h t (length l) ws
 
@@ -62,10 +64,11 @@ module _ (w h : ℕ) (t : Tables) (l : List ℕ) (ws vs : List (List ℕ)) (v : 
       ∙ judged_work (first_failed (given_tests w h t ws)) (whole w (length l)) ws
       ∙ ap (λ k. work_left k ws) (sym given)
 
-  pub list_stops : number_of o ≢ 0 → listed (Listed.Refused o 0) (seven t) vs ≡ merged_list w h t l ws
-  unfolding listed list_number list_values merged_list list_stop
-  list_stops n =
-      rw (work, ← number) (refused_first (number_of o) t (joins w h 0 (pairs l) t) ws n)
+  pub list_stops : (r : Result (Unit {0}) ListRefusal) → (list_number r ≡ number_of o) × (list_values r ≡ placed (number_of o) 0)
+      → list_number r ≢ 0 → listed r (seven t) vs ≡ merged_list w h t l ws
+  unfolding listed merged_list list_stop
+  list_stops r p n =
+      rw (p.0, p.1, work, ← number) (refused_first (number_of o) t (joins w h 0 (pairs l) t) ws (λ z. n (p.0 ∙ z)))
 
   -- Nothing is refused before the entries.
   module _ (z : number_of o ≡ 0) (c₁ d₁ e₁ f₁ : List ℕ) (s : vs ≡ works c₁ d₁ e₁ f₁) where
@@ -87,7 +90,7 @@ module _ (w h : ℕ) (t : Tables) (l : List ℕ) (ws vs : List (List ℕ)) (v : 
           still,
         )
 
-    pub list_ends : (r : Listed) (u : Tables) (xs : List (List ℕ)) → Ended r (joins w h 0 (pairs l) t) u
+    pub list_ends : (r : Result (Unit {0}) ListRefusal) (u : Tables) (xs : List (List ℕ)) → Ended r (joins w h 0 (pairs l) t) u
         → xs ≡ cleared (works c₁ d₁ e₁ f₁) → listed r (seven u) xs ≡ merged_list w h t l ws
     unfolding listed merged_list list_stop unless
     list_ends r u xs q f =

@@ -1,3 +1,4 @@
+// The tables stay parameters: a struct of lent tables was tried, and proves less (docs/DECISIONS.md, "The code's forms").
 ghost use Rattle.std.specs.Prelude.{◌≡◌};
 ghost use Rattle.paper.specs.Refusal.{seven};
 ghost use Rattle.paper.specs.Order.{merged_list};
@@ -7,7 +8,8 @@ ghost use Rattle.join_list.specs.Answer.{listed};
 use check_call::check;
 use join_answer::judge;
 use join_list::each;
-use join_list::each::Listed;
+use join_list::each::ListRefusal;
+use sheet_size::Size;
 
 // Joins by a list of names, two by two, in the seven tables of a drawing, which is checked once: one entry after another, up to the
 // first that is refused. Refusals 1, 4, then 12 where the list is of odd length or has too many pairs, 5, then those of the entry,
@@ -28,7 +30,7 @@ pub fn join_list(
     work_b: &mut [u16],
     work_c: &mut [u16],
     work_d: &mut [u16],
-) -> Listed
+) -> Result<(), ListRefusal>
     ensures { listed result
         (seven
         (tables next1.new side1.new next3.new other3.new parent.new
@@ -44,12 +46,23 @@ pub fn join_list(
         width, height, next1, side1, next3, other3, parent, cells, borders, work_a, work_b, work_c,
         work_d,
     );
-    let answer = judge::judged(checked, width, names.len());
-    if answer.number() != 0 {
-        return Listed::Refused { answer, place: 0 };
-    }
+    judge::judged(checked, width, names.len()).map_err(|refusal| ListRefusal {
+        refusal,
+        place: 0,
+    })?;
     each::join_all(
-        width, height, names, next1, side1, next3, other3, parent, cells, borders, work_a, work_b,
-        work_c, work_d,
+        Size { width, height },
+        names,
+        next1,
+        side1,
+        next3,
+        other3,
+        parent,
+        cells,
+        borders,
+        work_a,
+        work_b,
+        work_c,
+        work_d,
     )
 }

@@ -1,13 +1,15 @@
+// The tables stay parameters: a struct of lent tables was tried, and proves less (docs/DECISIONS.md, "The code's forms").
 ghost use Rattle.std.specs.Prelude.{◌≡◌};
 ghost use Rattle.paper.specs.Refusal.{seven, merged};
 ghost use Rattle.answer.specs.Answer.{number_of, told};
 ghost use Rattle.table_lengths.specs.Given.{tables, works};
 ghost use Rattle.join_call.specs.Faithful.{Faithful};
 
-use answer::Answer;
+use answer::Refusal;
 use check_call::check;
 use join_answer::asked;
 use join_rule::apply;
+use sheet_size::Size;
 
 // Joins the regions a and b of a drawing, in its seven tables, which come to equal the drawing afresh. Refusals 1, 4, 5,
 // then 6 where a name is 0, 7 where the names are equal, 8 where no region has one of them, 9 where the two share no
@@ -28,7 +30,7 @@ pub fn join(
     work_b: &mut [u16],
     work_c: &mut [u16],
     work_d: &mut [u16],
-) -> Answer
+) -> Result<(), Refusal>
     ensures { (told result
         (seven
         (tables next1.new side1.new next3.new other3.new parent.new
@@ -53,12 +55,20 @@ pub fn join(
         width, height, next1, side1, next3, other3, parent, cells, borders, work_a, work_b, work_c,
         work_d,
     );
-    let answer = asked::asked(checked, width, height, side1, parent, a, b);
-    if answer.number() != 0 {
-        return answer;
-    }
+    asked::asked(checked, width, height, side1, parent, a, b)?;
     apply::apply(
-        width, height, a, b, next1, side1, next3, other3, parent, cells, borders, work_a, work_b,
+        Size { width, height },
+        a,
+        b,
+        next1,
+        side1,
+        next3,
+        other3,
+        parent,
+        cells,
+        borders,
+        work_a,
+        work_b,
     );
-    Answer::Done
+    Ok(())
 }

@@ -1,5 +1,4 @@
-ghost use Rattle.std.specs.Prelude.{◌≡◌, true, ◌<◌, length};
-ghost use Rattle.sheet_size.specs.Size.{within};
+ghost use Rattle.std.specs.Prelude.{◌≡◌, ◌<◌, length};
 ghost use Rattle.point_darts.specs.Dart.{mark, points, slots, dart};
 ghost use Rattle.point_rules.specs.Turn.{point_table as the_point_table};
 ghost use Rattle.paper.specs.Joining.{on, moved, close, closes};
@@ -10,6 +9,7 @@ ghost use Rattle.region_parents.specs.Tops.{Rising};
 use join_darts::ends;
 use point_darts::dart;
 use point_darts::dart::Dart;
+use sheet_size::Size;
 use table_entries::{entry, present};
 
 // Darts u and v give way to darts e and f, each its own next and each the other of the other.
@@ -63,8 +63,7 @@ fn close_point(
 // those that remain, tops the tops of their pieces. The points visited are those of the darts of a list; at every other
 // point there is nothing to do.
 pub fn close(
-    width: u16,
-    height: u16,
+    size: Size,
     first: u16,
     list: &[u16],
     point_table: &[u16; 256],
@@ -74,18 +73,18 @@ pub fn close(
     next: &mut [u16],
     other: &mut [u16],
 )
-    requires { (within width height ≡ true) × (point_table.now ≡ the_point_table) × (length list.now ≡ slots width height) ×
-        (length before.now ≡ slots width height) × (length lines.now ≡ slots width height) ×
-        (length next.old ≡ slots width height) × (length tops.now ≡ points width height) × Rising tops.now ×
+    requires { (point_table.now ≡ the_point_table) × (length list.now ≡ slots size.width size.height) ×
+        (length before.now ≡ slots size.width size.height) × (length lines.now ≡ slots size.width size.height) ×
+        (length next.old ≡ slots size.width size.height) × (length tops.now ≡ points size.width size.height) × Rising tops.now ×
         Visited (closes (on lines.now) tops.now) (close (on lines.now) tops.now) (links next.old other.old)
-        (slots width height)
+        (slots size.width size.height)
         first
         list.now }
     ensures { links next.new other.new ≡
-        closes (on lines.now) tops.now (points width height) 0
+        closes (on lines.now) tops.now (points size.width size.height) 0
         (links next.old other.old) }
 {
-    let n = dart::slots(width, height);
+    let n = dart::slots(size);
     let mut dart = first;
     while dart < n {
         close_point(

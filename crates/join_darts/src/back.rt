@@ -1,10 +1,10 @@
-ghost use Rattle.std.specs.Prelude.{◌≡◌, true, ◌+◌, ◌*◌, ◌<◌, length};
+ghost use Rattle.std.specs.Prelude.{◌≡◌, ◌+◌, ◌*◌, ◌<◌, length};
 ghost use Rattle.laws.specs.Table.{table};
-ghost use Rattle.sheet_size.specs.Size.{within};
 ghost use Rattle.point_darts.specs.Dart.{mark, slots, dart, reversal};
 ghost use Rattle.table_entries.specs.Pointed.{pointed};
 
 use point_darts::dart;
+use sheet_size::Size;
 use table_entries::entry;
 
 // The reversals of the darts that leave a point.
@@ -17,14 +17,11 @@ fn put_reversals(width: u16, point: u16, back: &mut [u16])
 }
 
 // The reversal of every slot.
-pub fn fill_reversals(width: u16, height: u16, back: &mut [u16])
-    requires { (within width height ≡ true) × (length back.old ≡ slots width height) }
-    ensures { back.new ≡ table (slots width height) (reversal width) }
+pub fn fill_reversals(size: Size, back: &mut [u16])
+    requires { length back.old ≡ slots size.width size.height }
+    ensures { back.new ≡ table (slots size.width size.height) (reversal size.width) }
 {
-    let n = dart::points(width, height);
-    let mut point: u16 = 0;
-    while point < n {
-        put_reversals(width, point, back);
-        point += 1;
+    for point in 0..dart::points(size) {
+        put_reversals(size.width, point, back);
     }
 }

@@ -27,6 +27,7 @@ fn becoming(point_table: &[u16; 256], before: u16, left: u16) -> u16
 }
 
 // Whether exactly two lines are left of those before: the point becomes two lines in line or a corner.
+#[tactic(auto, using(crate::proofs::Seeing::two_in_line, crate::proofs::Seeing::two_corner))]
 pub fn two(point_table: &[u16; 256], before: u16, left: u16) -> bool
     requires { (point_table.now ≡ the_point_table) × (before < 16) × (left < 16) }
     ensures { result ≡ eqb (degree left) 2 }

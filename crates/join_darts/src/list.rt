@@ -33,10 +33,8 @@ pub fn is_free(side: &[u16], a: u16, b: u16, low: usize, high: usize) -> bool
         (result ≡ false → Met (bounds side.now a b) low high) }
 {
     let mut free = true;
-    let mut i = low;
-    while i < high {
+    for i in low..high {
         free = free & (side[i] != a) & (side[i] != b);
-        i += 1;
     }
     free
 }
@@ -56,10 +54,8 @@ fn list_part(
         Listing (bounds side.now a b) (length list.old) high after list.old }
     ensures { Listing (bounds side.now a b) (length list.old) low result list.new }
 {
-    let mut i = high;
     let mut first = after;
-    while low < i {
-        i -= 1;
+    for i in (low..high).rev() {
         list[i] = first;
         if is_either(side[i], a, b) {
             first = i as u16;
@@ -69,7 +65,7 @@ fn list_part(
 }
 
 // Lists the darts with side a or b: each leads to the one after it, the last to the number of slots. It answers the first,
-// the number of slots where there is none.
+// the number of slots where there is none. It goes from one part's start to the next; a count of parts would say it less plainly.
 pub fn list_darts(side: &[u16], a: u16, b: u16, list: &mut [u16]) -> u16
     requires { (length side.now ≡ length list.old) × (length list.old ≤ mark) }
     ensures { Listed (bounds side.now a b) (length list.old) result list.new }

@@ -11,7 +11,7 @@ use lib.ListN.{length, get_or, length-map, get_or-map, get_or-eq_default}
 use lib.Seq.{ext_get_or}
 use Rattle.laws.specs.Least.{lower, least}
 use Rattle.laws.proofs.Least.{lower_cases, get_or_lower}
-use Rattle.laws.proofs.Table.{get_d_map}
+use Rattle.laws.proofs.Table.{get_or_map}
 use Rattle.point_darts.specs.Dart.{mark, slots}
 use Rattle.paper.specs.Name.{west, north, names}
 use Rattle.paper.specs.Drawing.{Tables, drawing, Drawn, recovered, fresh}
@@ -58,7 +58,7 @@ module _ (w h : ℕ) (q : List ℕ) where
 
   pub first_name : (i : ℕ) → i < w * h → get_or (names w h q) i 0 ≡ suc (get_or l i 0)
   unfolding names
-  first_name i b = get_d_map suc l i 0 0 (omega (arith, first_long))
+  first_name i b = get_or_map suc l i 0 0 (omega (arith, first_long))
 
   first_low : (i : ℕ) → i < w * h → get_or l i 0 ≤ i
   first_low i b = omega (arith, first_name i b, name_range w h q i b)
@@ -109,7 +109,7 @@ module _ (w h : ℕ) (room : slots w h ≤ mark) where
         led = ext_get_or 0 (map suc l) (map (group_of l) (map suc l)) (sym (length-map (map suc l) (group_of l)))
             (λ i b.
             let c : i < w * h = rw (length-map l suc, first_long w h q) at b in
-            let p = get_d_map suc l i 0 0 (omega (arith, first_long w h q)) in
+            let p = get_or_map suc l i 0 0 (omega (arith, first_long w h q)) in
             p ∙ ap suc (sym (first_own w h q i c)) ∙ sym (get_or-map (group_of l) (map suc l) i 0 ∙ ap (group_of l) p));
       }
 

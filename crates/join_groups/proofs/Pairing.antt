@@ -2,13 +2,14 @@
 --   Standing ..     == groups stand for the drawing u
 --   Chosen c a b    == by the cells c the names a and b are those of two regions, neither the outside
 use mathlib.Core.Path.{◌≡◌, refl, sym, ap, subst, ◌∙◌, fun_ext}
-use mathlib.Core.Bool.{Bool, true, false, not}
+use mathlib.Core.Bool.{true, false}
 use mathlib.Core.List.{List, map}
 use mathlib.Core.Logic.{◌≢◌}
 use Prim.Native.Nat.{ℕ, zero, suc, ◌+◌, ◌*◌, ◌-◌, ◌≤◌, ◌<◌}
 use native.Mathlib.Decide.{ℕ_discrete}
 use native.Mathlib.Omega.{arith}
 use lib.ListN.{length, get_or}
+use Rattle.std.specs.Prelude.{Ok}
 use Rattle.laws.specs.First.{first_failed}
 use Rattle.laws.specs.Least.{lower}
 use Rattle.laws.proofs.Least.{lower_comm}
@@ -22,7 +23,6 @@ use Rattle.paper.specs.Sitting.{Joinable}
 use Rattle.paper_laws.proofs.Marks.{slots_most, cells_slots}
 use Rattle.paper_laws.proofs.Added.{cells_most, total_used, total_unused, at_totals}
 use Rattle.paper_laws.proofs.InUse.{used_cells, pair_cells}
-use Rattle.answer.specs.declared.Answer.{Answer}
 use Rattle.answer.specs.Answer.{number_of}
 use Rattle.table_entries.proofs.Entries.{on_no_mark}
 use Rattle.table_forest.specs.Forest.{Forest}
@@ -33,13 +33,9 @@ use Rattle.join_groups.specs.Group.{group_of, Standing}
 use Rattle.join_groups.proofs.Grouping.{group_lower, grouped_joined}
 use Rattle.join_groups.proofs.Standing.{Chosen, room, standing_drawn, name_below, first_cell, some_dart, side_long}
 
-pub done_none : number_of Answer.Done ≡ 0
+done_none : number_of {T = Unit {0}} (Ok tt) ≡ 0
 unfolding number_of
 done_none = refl
-
-pub apart_some : number_of Answer.Apart ≢ 0
-unfolding number_of
-apart_some e = omega (arith, e)
 
 module _ (w h : ℕ) (s c n t f e : List ℕ) (u : Tables) (v : Standing w h s c n t f e u) where
   -- a region in use has no more cells than the sheet
@@ -61,22 +57,21 @@ module _ (w h : ℕ) (s c n t f e : List ℕ) (u : Tables) (v : Standing w h s c
 
   module _ (a b : ℕ) where
     -- the number
-    told : (k : ℕ) → k ≡ asked Answer.Done w h u.side1 c a b → k ≡ first_failed (pair_tests w h u.side1 u.parent a b)
+    told : (k : ℕ) → k ≡ asked (Ok tt) w h u.side1 c a b → k ≡ first_failed (pair_tests w h u.side1 u.parent a b)
     unfolding asked number_of
     told k q =
         q ∙ ap (λ l. first_failed (pair_tests w h u.side1 l a b)) (sym v.cells)
         ∙ pair_cells w h (room w h s c n t f e u v) u (standing_drawn w h s c n t f e u v) a b
 
-    module _ (o : Answer) (q : number_of o ≡ first_failed (name_tests c a b)) where
-      pub pair_named : number_of o ≢ 0 → number_of o ≡ first_failed (pair_tests w h u.side1 u.parent a b)
-      pair_named z = told (number_of o) (asked_named Answer.Done w h u.side1 c a b done_none o q z)
+    pub pair_named : (k : ℕ) → k ≡ first_failed (name_tests c a b) → k ≢ 0 → k ≡ first_failed (pair_tests w h u.side1 u.parent a b)
+    pair_named k q z = told k (asked_named (Ok tt) w h u.side1 c a b done_none k q z)
 
-      module _ (z : number_of o ≡ 0) (r : Bool) (g : r ≡ adjoin w h u.side1 a b) where
-        pub pair_apart : not r ≡ true → number_of Answer.Apart ≡ first_failed (pair_tests w h u.side1 u.parent a b)
-        pair_apart i = told (number_of Answer.Apart) (asked_apart Answer.Done w h u.side1 c a b done_none o q z r g i)
+    module _ (q : 0 ≡ first_failed (name_tests c a b)) where
+      pub pair_apart : false ≡ adjoin w h u.side1 a b → 9 ≡ first_failed (pair_tests w h u.side1 u.parent a b)
+      pair_apart i = told 9 (asked_apart (Ok tt) w h u.side1 c a b done_none q i)
 
-        pub pair_done : not r ≡ false → number_of Answer.Done ≡ first_failed (pair_tests w h u.side1 u.parent a b)
-        pair_done i = told (number_of Answer.Done) (asked_done Answer.Done w h u.side1 c a b done_none o q z r g i)
+      pub pair_done : true ≡ adjoin w h u.side1 a b → 0 ≡ first_failed (pair_tests w h u.side1 u.parent a b)
+      pair_done i = told 0 (asked_done (Ok tt) w h u.side1 c a b done_none q i)
 
     -- what putting together asks
     pub pair_ready : Chosen c a b → (a ≢ 0) × (b ≢ 0) × (a ≢ b) × (a ≤ length n) × (b ≤ length n) × (at c a + at c b ≤ mark)

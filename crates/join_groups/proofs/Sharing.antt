@@ -11,7 +11,7 @@ use native.Mathlib.Omega.{arith}
 use lib.Dec.{eqb}
 use lib.ListN.{length, get_or, length-map}
 use borrow.Author.Tests.{eq-eqb}
-use Rattle.laws.proofs.Table.{get_d_map, some_found, found_some, some_agree}
+use Rattle.laws.proofs.Table.{get_or_map, some_found, found_some, some_agree}
 use Rattle.laws.proofs.Count.{count_le}
 use Rattle.point_darts.specs.Dart.{mark, slots, reversal}
 use Rattle.point_darts.proofs.Darts.{reversal_twice}
@@ -150,7 +150,7 @@ module _ (w h : ℕ) (room : slots w h ≤ mark) (s l : List ℕ) (u : Tables) (
   -- a group has a dart: the top side of its first cell
   pub group_dart : (i : ℕ) → i < w * h → get_or l i 0 ≡ i → Of s group (suc i) (top_side w i)
   group_dart i b e =
-      let z : get_or m i 0 ≡ suc i = rw g.named (get_d_map suc l i 0 0 (omega (arith, sized)) ∙ ap suc e) in
+      let z : get_or m i 0 ≡ suc i = rw g.named (get_or_map suc l i 0 0 (omega (arith, sized)) ∙ ap suc e) in
       rw (top_side_own w h g.after i b z) at (line_of (top_side w i) (top_side_on w h g.after i b z))
 
   -- Through the list of a group.

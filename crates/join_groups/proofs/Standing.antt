@@ -28,7 +28,7 @@ use Rattle.table_entries.proofs.Entries.{on_no_mark, on_below}
 use Rattle.table_forest.specs.Forest.{Forest, Grown}
 use Rattle.region_darts.specs.Lists.{Of}
 use Rattle.join_answer.proofs.Asking.{names_numbered}
-use Rattle.laws.proofs.Table.{get_d_map}
+use Rattle.laws.proofs.Table.{get_or_map}
 use Rattle.join_groups.specs.Group.{group_of, Met, Unmet, Walkable, Standing}
 use Rattle.join_groups.proofs.Sharing.{sized, group_dart, list_walkable, met_shared, unmet_apart}
 
@@ -85,7 +85,7 @@ module _ (w h : ℕ) (s c n t f e : List ℕ) (u : Tables) (v : Standing w h s c
       sym (used_cells w h room u standing_drawn (suc i) (λ z. omega arith)) ∙ ap (λ k. used k (suc i)) v.cells ∙ q in
       let z = (parents_used w h g.after i (omega arith) room).0 (rw (← g.same) at (on_no_mark u.parent (suc i) p)) in
       let m : get_or (names w h g.after) i 0 ≡ suc (get_or v.groups i 0) =
-      rw g.named (get_d_map suc v.groups i 0 0 (omega (arith, sized w h room s v.groups u g))) in
+      rw g.named (get_or_map suc v.groups i 0 0 (omega (arith, sized w h room s v.groups u g))) in
       omega (arith, z, m)
 
   -- and a dart

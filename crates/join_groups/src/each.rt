@@ -7,9 +7,9 @@ ghost use Rattle.join_groups.specs.Group.{Standing, Stopped};
 
 use crate::group::End;
 use crate::pair;
-use answer::Answer;
 
-// The entries of a list are joined one after another, up to the first that is refused, where groups stand for the drawing.
+// The entries of a list are joined one after another, up to the first that is refused, where groups stand for the drawing. What is
+// left of the list grows shorter, since the promise is an equation about what is left.
 pub fn join_each(
     width: u16,
     names: &[u16],
@@ -39,14 +39,14 @@ pub fn join_each(
         let answer = pair::join_pair(
             width, rest[0], rest[1], side, cells, groups, list, first, last,
         );
-        if answer.number() != 0 {
+        if answer.is_err() {
             return End { answer, place };
         }
         rest = &rest[2..];
         place += 1;
     }
     End {
-        answer: Answer::Done,
+        answer: Ok(()),
         place,
     }
 }

@@ -11,7 +11,7 @@ ghost use Rattle.region_darts.specs.Lists.{Of, Lists};
 ghost use Rattle.join_groups.specs.Group.{Standing};
 
 use crate::share;
-use answer::Answer;
+use answer::Refusal;
 use join_answer::asked;
 use join_totals::total;
 use region_darts::list;
@@ -68,7 +68,7 @@ pub fn join_pair(
     list: &mut [u16],
     first: &[u16],
     last: &mut [u16],
-) -> Answer
+) -> Result<(), Refusal>
     requires { (h : ℕ) × (u : Tables) ×
         Standing width h side.now cells.old groups.old list.old first.now last.old u }
     ensures { (h : ℕ) (u : Tables) →
@@ -85,13 +85,10 @@ pub fn join_pair(
         last.new
         u) }
 {
-    let named = asked::check_names(cells, a, b);
-    if named.number() != 0 {
-        return named;
-    }
+    asked::check_names(cells, a, b)?;
     if !share::share(width, a, b, side, cells, groups, list, first) {
-        return Answer::Apart;
+        return Err(Refusal::Apart);
     }
     put_together(a, b, cells, groups, list, first, last);
-    Answer::Done
+    Ok(())
 }

@@ -35,8 +35,7 @@ fn meets(width: u16, side: &[u16], list: &[u16], from: u16, y: u16, groups: &mut
         (result ≡ false → Unmet width side.now l list.now from y (length list.now)) }
 {
     let mut dart = from;
-    let mut left = list.len();
-    while 0 < left {
+    for _ in 0..list.len() {
         if dart == dart::MARK {
             return false;
         }
@@ -45,7 +44,6 @@ fn meets(width: u16, side: &[u16], list: &[u16], from: u16, y: u16, groups: &mut
             return true;
         }
         dart = entry::get(list, dart);
-        left -= 1;
     }
     false
 }

@@ -8,6 +8,9 @@ use mathlib.Core.Logic.{◌≢◌}
 use Prim.Native.Nat.{ℕ, zero, suc, ◌≤◌}
 use native.Mathlib.Decide.{ℕ_discrete}
 use lib.ListN.{length}
+use Rattle.std.specs.Prelude.{Result, Ok, Err}
+use Rattle.std.specs.Result.{MatchResult, IsErrAnd}
+use Rattle.std.proofs.lemmas.Result.{err_from_is_err_and}
 use Rattle.laws.specs.First.{first_failed}
 use Rattle.laws.proofs.First.{failed_from}
 use Rattle.sheet_size.specs.Size.{within}
@@ -20,32 +23,40 @@ use Rattle.paper.specs.Order.{Stop, pairs, unless, joins, placed, stop}
 use Rattle.paper_laws.proofs.Marks.{within_fits, names_side_small}
 use Rattle.paper_laws.proofs.Joined.{parents_drawn}
 use Rattle.paper_laws.proofs.Order.{pair_numbered}
-use Rattle.answer.specs.declared.Answer.{Answer}
-use Rattle.answer.specs.Answer.{number_of}
+use Rattle.answer.specs.declared.Refusal.{Refusal}
+use Rattle.answer.specs.Answer.{refusal_number, number_of}
+use Rattle.answer.proofs.Outcome.{refusal_some}
 use Rattle.table_lengths.specs.Given.{tables, works}
 use Rattle.join_rule.specs.Apply.{pair, found}
 use Rattle.join_rule.proofs.Readiness.{stated_pair}
-use Rattle.join_list.specs.declared.each.Listed.{Listed}
+use Rattle.join_list.specs.declared.each.ListRefusal.{ListRefusal}
 use Rattle.join_list.specs.Answer.{list_number, list_values}
 use Rattle.join_list.specs.Each.{Open, Left, Ended}
 
--- The answer.
-module _ (r : Answer) (i : ℕ) where
-  pub told_done : number_of r ≡ 0 → (list_number Listed.Done ≡ number_of r) × (list_values Listed.Done ≡ placed (number_of r) i)
-  unfolding list_number list_values placed
-  told_done z = (sym z, rw z)
+-- An answer a of a call, with the place i where it is a refusal: r tells its number, and the place.
+module _ (i : ℕ) where
+  at_place : (k : ℕ) → k ≢ 0 → i ∷ [] ≡ placed k i
+  unfolding placed
+  at_place zero z = absurd (z refl)
+  at_place (suc k) z = refl
 
-  pub told_refused : number_of r ≢ 0
-      → (list_number (Listed.Refused r i) ≡ number_of r) × (list_values (Listed.Refused r i) ≡ placed (number_of r) i)
-  unfolding list_number list_values placed
-  told_refused n = (refl, by (number_of r) n)
-    where
-      by : (k : ℕ) → k ≢ 0 → list_values (Listed.Refused r i) ≡ placed k i
-      by zero z = absurd (z refl)
-      by (suc k) z = refl
+  pub told_placed : (Q : Refusal → ListRefusal → Type 0) → ((x : Refusal) (q : ListRefusal) → Q x q → q ≡ record { refusal = x; place = i })
+      → (a : Result (Unit {0}) Refusal) (r : Result (Unit {0}) ListRefusal) → MatchResult a (λ x. r ≡ Ok x) (λ x. IsErrAnd r (Q x))
+      → (list_number r ≡ number_of a) × (list_values r ≡ placed (number_of a) i)
+  unfolding list_number list_values placed number_of
+  told_placed Q f (Ok x) r m = rw m (refl, refl)
+  told_placed Q f (Err x) (Ok y) m = absurd m
+  told_placed Q f (Err x) (Err y) m = rw (f x y m) (refl, at_place (refusal_number x) (refusal_some x))
+
+-- A refusal that is handed on: r refuses x, and so does q.
+pub handed_on : (r q : Result (Unit {0}) ListRefusal) (x : ListRefusal) → r ≡ Err x → IsErrAnd q (λ y. y ≡ x)
+    → (list_number r ≢ 0) × (q ≡ r)
+unfolding list_number
+handed_on r q x e i = let p = err_from_is_err_and q i in (rw e (refusal_some x.refusal), p.1 ∙ ap Err p.2 ∙ sym e)
 
 -- It tells where the list stops.
-pub stop_ended : (n i : ℕ) (t : Tables) (s : Stop) → stop n i t ≡ s → (r : Listed) → (list_number r ≡ n) × (list_values r ≡ placed n i)
+pub stop_ended : (n i : ℕ) (t : Tables) (s : Stop) → stop n i t ≡ s
+    → (r : Result (Unit {0}) ListRefusal) → (list_number r ≡ n) × (list_values r ≡ placed n i)
     → Ended r s t
 stop_ended n i t s e r p =
     record {
@@ -102,7 +113,7 @@ module _ (w h : ℕ) (x s y o p c e b l : List ℕ) (k : Open w h (tables x s y 
         ∙ f
         ∙ ap (joins w h 0 (pairs ns)) same_found
 
-    pub all_ended : (r : Listed) → (list_number r ≡ n) × (list_values r ≡ placed n i)
+    pub all_ended : (r : Result (Unit {0}) ListRefusal) → (list_number r ≡ n) × (list_values r ≡ placed n i)
         → Ended r (joins w h 0 (pairs ns) (tables x s y o p c e)) (tables x₁ s₁ y₁ o₁ p₁ c₁ e₁)
     all_ended = stop_ended n i (tables x₁ s₁ y₁ o₁ p₁ c₁ e₁) (joins w h 0 (pairs ns) (tables x s y o p c e)) stops
 

@@ -39,10 +39,7 @@ pub fn lower_sides(a: u16, b: u16, lines: &[u16], side: &mut [u16])
         table (length side.old)
         (λ d. cond (on lines.now d) (lower a b (at side.old d)) mark) }
 {
-    let n = side.len();
-    let mut i = 0;
-    while i < n {
+    for i in 0..side.len() {
         side[i] = side_left(a, b, lines[i], side[i]);
-        i += 1;
     }
 }

@@ -1,6 +1,5 @@
-ghost use Rattle.std.specs.Prelude.{◌≡◌, true, cond, ◌&&◌, ◌≤◌, ◌<◌, length};
+ghost use Rattle.std.specs.Prelude.{◌≡◌, cond, ◌&&◌, ◌≤◌, ◌<◌, length};
 ghost use Rattle.laws.specs.Table.{table, count};
-ghost use Rattle.sheet_size.specs.Size.{within};
 ghost use Rattle.point_darts.specs.Dart.{mark, slots, reversal};
 ghost use Rattle.paper.specs.Joining.{at, shared, removed};
 ghost use Rattle.join_darts.specs.Links.{links};
@@ -10,6 +9,7 @@ ghost use Rattle.join_shared.specs.Mapped.{Mapped, Bare};
 
 use crate::chase;
 use join_darts::back;
+use sheet_size::Size;
 
 // The next of every dart, past the darts with the sides a and b, which keep theirs.
 fn lead(side: &[u16], other: &[u16], a: u16, b: u16, first: u16, list: &[u16], next: &mut [u16])
@@ -108,7 +108,8 @@ fn remove_nexts(
     unlink(side, other, a, b, first, list, next)
 }
 
-// Step 1 at any level: the darts with the sides a and b go. The list has the darts with side a or b that have a next.
+// Step 1 at any level: the darts with the sides a and b go. The list has the darts with side a or b that have a next. Width and
+// height need not be a size: they only say how many slots there are.
 pub fn remove_shared(
     width: u16,
     height: u16,
@@ -136,8 +137,7 @@ pub fn remove_shared(
 // Step 1 at level 1, where the other of a dart is its reversal. It answers how many darts went. The list has the darts with side
 // a or b. Back is work: it is left with the reversals.
 pub fn remove_plain_shared(
-    width: u16,
-    height: u16,
+    size: Size,
     side: &[u16],
     a: u16,
     b: u16,
@@ -146,17 +146,17 @@ pub fn remove_plain_shared(
     next: &mut [u16],
     back: &mut [u16],
 ) -> u16
-    requires { (within width height ≡ true) × (a < mark) × (b < mark) × (length side.now ≡ slots width height) ×
-        (length list.now ≡ slots width height) × (length next.old ≡ slots width height) ×
-        (length back.old ≡ slots width height) ×
-        Listed (bounds side.now a b) (slots width height) first list.now ×
-        Mapped side.now next.old (table (slots width height) (reversal width)) }
+    requires { (a < mark) × (b < mark) × (length side.now ≡ slots size.width size.height) ×
+        (length list.now ≡ slots size.width size.height) × (length next.old ≡ slots size.width size.height) ×
+        (length back.old ≡ slots size.width size.height) ×
+        Listed (bounds side.now a b) (slots size.width size.height) first list.now ×
+        Mapped side.now next.old (table (slots size.width size.height) (reversal size.width)) }
     ensures { (next.new ≡
-        (removed width height (links next.old (table (slots width height) (reversal width)))
-        (shared side.now (at (table (slots width height) (reversal width))) a b)
+        (removed size.width size.height (links next.old (table (slots size.width size.height) (reversal size.width)))
+        (shared side.now (at (table (slots size.width size.height) (reversal size.width))) a b)
         ).next) ×
-        (result ≡ count (slots width height) (shared side.now (reversal width) a b)) }
+        (result ≡ count (slots size.width size.height) (shared side.now (reversal size.width) a b)) }
 {
-    back::fill_reversals(width, height, back);
-    remove_nexts(width, height, side, back, a, b, first, list, next)
+    back::fill_reversals(size, back);
+    remove_nexts(size.width, size.height, side, back, a, b, first, list, next)
 }

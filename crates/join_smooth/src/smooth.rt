@@ -1,5 +1,4 @@
-ghost use Rattle.std.specs.Prelude.{◌≡◌, true, List, ℕ, ◌<◌, length};
-ghost use Rattle.sheet_size.specs.Size.{within};
+ghost use Rattle.std.specs.Prelude.{◌≡◌, List, ℕ, ◌<◌, length};
 ghost use Rattle.point_darts.specs.Dart.{mark, slots, dart};
 ghost use Rattle.point_rules.specs.Turn.{point_table as the_point_table};
 ghost use Rattle.paper.specs.Joining.{spliced, smooth, smooths, smoothed};
@@ -9,6 +8,7 @@ ghost use Rattle.join_darts.specs.Visited.{Visited};
 use join_darts::ends;
 use point_darts::dart;
 use point_darts::dart::Dart;
+use sheet_size::Size;
 use table_entries::{entry, present};
 
 // Darts u and v go; the next of their others x and y become those of v and u.
@@ -65,8 +65,7 @@ fn smooth_point(
 // Step 3: the points that two darts of two different edges alone leave go, one after another. Before has entries for the
 // lines before the join. The points visited are those of the darts of a list; at every other point there is nothing to do.
 pub fn smooth(
-    width: u16,
-    height: u16,
+    size: Size,
     first: u16,
     list: &[u16],
     point_table: &[u16; 256],
@@ -74,13 +73,13 @@ pub fn smooth(
     next: &mut [u16],
     other: &mut [u16],
 )
-    requires { (within width height ≡ true) × (point_table.now ≡ the_point_table) × (length list.now ≡ slots width height) ×
-        (length before.now ≡ slots width height) × (length next.old ≡ slots width height) ×
-        Visited smooths smooth (links next.old other.old) (slots width height) first list.now }
+    requires { (point_table.now ≡ the_point_table) × (length list.now ≡ slots size.width size.height) ×
+        (length before.now ≡ slots size.width size.height) × (length next.old ≡ slots size.width size.height) ×
+        Visited smooths smooth (links next.old other.old) (slots size.width size.height) first list.now }
     ensures { links next.new other.new ≡
-        smoothed width height (links next.old other.old) }
+        smoothed size.width size.height (links next.old other.old) }
 {
-    let n = dart::slots(width, height);
+    let n = dart::slots(size);
     let mut dart = first;
     while dart < n {
         smooth_point(

@@ -1,5 +1,5 @@
 -- Sets of lines of a grid that have an even number of lines at each place. Cells stand in columns and rows, and a cell has a
--- place at its south_east corner.
+-- place at its south-east corner.
 --   v x y           == the line that runs north from the place in column x and row y is of the set
 --   l x y           == the line that runs west from it is of the set
 --   odd a b         == exactly one of a and b

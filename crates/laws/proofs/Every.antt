@@ -1,13 +1,20 @@
 -- A test that goes along a list.
 --   every p (drop i l) == the entries from i on pass the test p
-use mathlib.Core.Path.{◌≡◌}
+--   list_all p l    == every entry passes the test p, as std has it
+use mathlib.Core.Path.{◌≡◌, refl}
 use mathlib.Core.Bool.{Bool, true, false}
-use mathlib.Core.List.{List}
+use mathlib.Core.List.{List, [], ◌∷◌}
 use Prim.Native.Nat.{ℕ, ◌+◌, ◌≤◌, ◌<◌}
 use native.Mathlib.Numerals.{add-one}
 use lib.ListN.{length, get_or, drop, drop_of_length-le}
 use lib.Seq.{drop-cons}
+use Rattle.std.specs.List.{list_all}
 use Rattle.laws.specs.Every.{every}
+
+pub every_all : (p : ℕ → Bool) (l : List ℕ) → list_all p l ≡ every p l
+unfolding every
+every_all p [] = refl
+every_all p (x ∷ l) = rw (every_all p l)
 
 module _ (p : ℕ → Bool) (l : List ℕ) where
   -- an entry that fails: not every entry from there on passes

@@ -1,6 +1,6 @@
 -- Which cells of a grid lie inside, by the parity of the lines crossed on the way from the edge.
 -- Cells stand in columns and rows, of which the sheet has those from 1 to w and from 1 to h; a cell has a place at its
--- south_east corner. Some cells are of a region, some places of a piece.
+-- south-east corner. Some cells are of a region, some places of a piece.
 --   e x y           == the cell in column x and row y is of the region
 --   t x y           == its place is of the piece
 --   odd a b         == exactly one of a and b
@@ -237,7 +237,7 @@ module _ {w h : ℕ} {e t : ℕ → ℕ → Bool} (g : Edged w h e t) where
       rw (inside_corner x y, q) (simp odd_false at (odd_past (inner x (suc y)) true b (e (suc x) (suc y)) false))
       ∙ round_south x y q
 
-  -- as far as no place is of the piece, no cell south_east of one lies inside
+  -- as far as no place is of the piece, no cell south-east of one lies inside
   pub inside_begin : (x y : ℕ) → ((k : ℕ) → k ≤ x → t k y ≡ false) → inner (suc x) (suc y) ≡ false
   inside_begin x y f =
       inside_down (suc x) y

@@ -61,11 +61,11 @@ table_entries n l z e =
     (λ i b. let c : i < n = rw length_table at b in get_or_table n (λ j. get_or l j z) i z c)
 
 -- An entry of a mapped list, whatever the default beyond its end.
-pub get_d_map : {A B : Type 0} (f : A → B) (l : List A) (i : ℕ) (y : B) (z : A) → i < length l
+pub get_or_map : {A B : Type 0} (f : A → B) (l : List A) (i : ℕ) (y : B) (z : A) → i < length l
     → get_or (map f l) i y ≡ f (get_or l i z)
-get_d_map f [] i y z h = absurd (not-suc-le-zero h)
-get_d_map f (x ∷ l) zero y z h = refl
-get_d_map f (x ∷ l) (suc i) y z h = get_d_map f l i y z (omega arith)
+get_or_map f [] i y z h = absurd (not-suc-le-zero h)
+get_or_map f (x ∷ l) zero y z h = refl
+get_or_map f (x ∷ l) (suc i) y z h = get_or_map f l i y z (omega arith)
 
 -- A test that passes at the last number or below.
 or_false : (a b : Bool) → a || b ≡ false → (a ≡ false) × (b ≡ false)

@@ -1,5 +1,4 @@
-ghost use Rattle.std.specs.Prelude.{◌≡◌, true, [], ◌∷◌, ◌+◌, ◌≤◌, length};
-ghost use Rattle.sheet_size.specs.Size.{within};
+ghost use Rattle.std.specs.Prelude.{◌≡◌, [], ◌∷◌, ◌+◌, ◌≤◌, length};
 ghost use Rattle.point_darts.specs.Dart.{points, slots};
 ghost use Rattle.paper.specs.Level.{tops};
 ghost use Rattle.paper.specs.Joining.{on};
@@ -12,54 +11,46 @@ use level_lines::{line, side};
 use level_masks::mask;
 use level_pieces::points;
 use point_darts::dart;
+use sheet_size::Size;
 use table_entries::entry;
 
 // The points that level 3 keeps, from the lines of level 1 and their sides. The tops of the pieces are found in a table
 // of slot length, which is scratch.
-fn keep_anchors(
-    width: u16,
-    height: u16,
-    side: &[u16],
-    masks: &[u16],
-    scratch: &mut [u16],
-    kept: &mut [u16],
-)
-    requires { (within width height ≡ true) × (length side.now ≡ slots width height) ×
-        (length masks.now ≡ points width height) × (length scratch.old ≡ slots width height) ×
-        (length kept.old ≡ points width height) }
-    ensures { kept.new ≡ keeps width height masks.now (tops width height (on side.now)) }
+fn keep_anchors(size: Size, side: &[u16], masks: &[u16], scratch: &mut [u16], kept: &mut [u16])
+    requires { (length side.now ≡ slots size.width size.height) ×
+        (length masks.now ≡ points size.width size.height) × (length scratch.old ≡ slots size.width size.height) ×
+        (length kept.old ≡ points size.width size.height) }
+    ensures { kept.new ≡ keeps size.width size.height masks.now (tops size.width size.height (on side.now)) }
 {
-    let n = dart::points(width, height) as usize;
-    points::top_points(width, height, side, &mut scratch[..n]);
-    keep::keeps(width, height, masks, &scratch[..n], kept);
+    let n = dart::points(size) as usize;
+    points::top_points(size, side, &mut scratch[..n]);
+    keep::keeps(size, masks, &scratch[..n], kept);
 }
 
 // The points that level 2 or 3 keeps, from the lines of level 1 and their sides.
 fn keep_points(
-    width: u16,
-    height: u16,
+    size: Size,
     level: u16,
     side: &[u16],
     masks: &[u16],
     scratch: &mut [u16],
     kept: &mut [u16],
 )
-    requires { (within width height ≡ true) × (length side.now ≡ slots width height) ×
-        (length masks.now ≡ points width height) × (length scratch.old ≡ slots width height) ×
-        (length kept.old ≡ points width height) }
-    ensures { kept.new ≡ kept_points width height level masks.now side.now }
+    requires { (length side.now ≡ slots size.width size.height) ×
+        (length masks.now ≡ points size.width size.height) × (length scratch.old ≡ slots size.width size.height) ×
+        (length kept.old ≡ points size.width size.height) }
+    ensures { kept.new ≡ kept_points size.width size.height level masks.now side.now }
 {
     if level == 2 {
-        keep::bends(width, height, masks, kept);
+        keep::bends(size.width, size.height, masks, kept);
         return;
     }
-    keep_anchors(width, height, side, masks, scratch, kept);
+    keep_anchors(size, side, masks, scratch, kept);
 }
 
 // Level 2 or 3: next and other along the runs of level 1 between kept points.
 pub fn along(
-    width: u16,
-    height: u16,
+    size: Size,
     level: u16,
     framed: &[u16],
     next1: &mut [u16],
@@ -69,18 +60,18 @@ pub fn along(
     other: &mut [u16],
     side: &mut [u16],
 )
-    requires { (within width height ≡ true) × (2 ≤ level) × (level ≤ 3) ×
-        (length framed.now ≡ points width height + width + 2) × (length next1.old ≡ slots width height) ×
-        (length masks.old ≡ points width height) × (length kept.old ≡ points width height) ×
-        (length next.old ≡ slots width height) × (length other.old ≡ slots width height) ×
-        (length side.old ≡ slots width height) × Surrounded width height framed.now }
+    requires { (2 ≤ level) × (level ≤ 3) ×
+        (length framed.now ≡ points size.width size.height + size.width + 2) × (length next1.old ≡ slots size.width size.height) ×
+        (length masks.old ≡ points size.width size.height) × (length kept.old ≡ points size.width size.height) ×
+        (length next.old ≡ slots size.width size.height) × (length other.old ≡ slots size.width size.height) ×
+        (length side.old ≡ slots size.width size.height) × Surrounded size.width size.height framed.now }
     ensures { (next.new ∷ other.new ∷ side.new ∷ []) ≡
-        tables_of width height level framed.now }
+        tables_of size.width size.height level framed.now }
 {
-    mask::masks(width, height, framed, masks);
-    line::nexts(width, height, masks, next1);
-    side::sides(width, height, framed, masks, side);
-    keep_points(width, height, level, side, masks, next, kept);
-    link::links(width, height, next1, kept, next, other);
+    mask::masks(size, framed, masks);
+    line::nexts(size, masks, next1);
+    side::sides(size, framed, masks, side);
+    keep_points(size, level, side, masks, next, kept);
+    link::links(size, next1, kept, next, other);
     entry::trim(next, side);
 }

@@ -1,10 +1,11 @@
+// The tables stay parameters: a struct of lent tables was tried, and proves less (docs/DECISIONS.md, "The code's forms").
 ghost use Rattle.std.specs.Prelude.{◌≡◌, [], ◌∷◌};
 ghost use Rattle.paper.specs.Refusal.{levelled};
 ghost use Rattle.answer.specs.Answer.{told};
 ghost use Rattle.table_lengths.specs.Given.{works};
 
 use crate::fill;
-use answer::Answer;
+use answer::Refusal;
 
 // Draws a level of a sheet: next, other and side, the mark at each slot without a dart of the level, and the work tables
 // all 0. Refusals: 1 where the width or the height is not 1 to the greatest, 2 where the level is above 3, 3 where the
@@ -22,14 +23,14 @@ pub fn draw(
     work_b: &mut [u16],
     work_c: &mut [u16],
     work_d: &mut [u16],
-) -> Answer
+) -> Result<(), Refusal>
     ensures { told result (next.new ∷ other.new ∷ side.new ∷ [])
         (works work_a.new work_b.new work_c.new work_d.new) ≡
         levelled width height level sheet.now
         (next.old ∷ other.old ∷ side.old ∷ [])
         (works work_a.old work_b.old work_c.old work_d.old) }
 {
-    let answer = level_answer::refusal(
+    let size = level_answer::refusal(
         width,
         height,
         level,
@@ -43,12 +44,9 @@ pub fn draw(
             work_c.len(),
             work_d.len(),
         ],
-    );
-    if answer.number() != 0 {
-        return answer;
-    }
+    )?;
     fill::fill(
-        width, height, level, sheet, next, other, side, work_a, work_b, work_c, work_d,
+        size, level, sheet, next, other, side, work_a, work_b, work_c, work_d,
     );
-    Answer::Done
+    Ok(())
 }

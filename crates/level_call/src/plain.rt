@@ -1,15 +1,14 @@
-ghost use Rattle.std.specs.Prelude.{◌≡◌, true, [], ◌∷◌, ◌+◌, ◌<◌, length};
-ghost use Rattle.sheet_size.specs.Size.{within};
+ghost use Rattle.std.specs.Prelude.{◌≡◌, [], ◌∷◌, ◌+◌, ◌<◌, length};
 ghost use Rattle.point_darts.specs.Dart.{points, slots};
 ghost use Rattle.level_call.specs.Tables.{tables_of};
 
 use level_lines::{line, side};
 use level_masks::mask;
+use sheet_size::Size;
 
 // Level 0 or 1, which keep every point.
 pub fn plain(
-    width: u16,
-    height: u16,
+    size: Size,
     level: u16,
     framed: &[u16],
     masks: &mut [u16],
@@ -17,14 +16,14 @@ pub fn plain(
     other: &mut [u16],
     side: &mut [u16],
 )
-    requires { (within width height ≡ true) × (level < 2) × (length framed.now ≡ points width height + width + 2) ×
-        (length masks.old ≡ points width height) × (length next.old ≡ slots width height) ×
-        (length other.old ≡ slots width height) × (length side.old ≡ slots width height) }
+    requires { (level < 2) × (length framed.now ≡ points size.width size.height + size.width + 2) ×
+        (length masks.old ≡ points size.width size.height) × (length next.old ≡ slots size.width size.height) ×
+        (length other.old ≡ slots size.width size.height) × (length side.old ≡ slots size.width size.height) }
     ensures { (next.new ∷ other.new ∷ side.new ∷ []) ≡
-        tables_of width height level framed.now }
+        tables_of size.width size.height level framed.now }
 {
-    mask::draft(width, height, level, framed, masks);
-    line::nexts(width, height, masks, next);
-    line::others(width, height, masks, other);
-    side::sides(width, height, framed, masks, side);
+    mask::draft(size, level, framed, masks);
+    line::nexts(size, masks, next);
+    line::others(size, masks, other);
+    side::sides(size, framed, masks, side);
 }

@@ -1,11 +1,11 @@
 ghost use Rattle.std.specs.Prelude.{◌≡◌, true, ℕ, ◌+◌, ◌*◌, ◌<◌, length};
-ghost use Rattle.sheet_size.specs.Size.{within};
 ghost use Rattle.point_darts.specs.Dart.{points, slots, dart, point, direction, turned};
 ghost use Rattle.paper.specs.Joining.{at, on};
 ghost use Rattle.level_curves.specs.Link.{kept_at, starts, last_of, along_next, along_other, TwoWay, Linking};
 
 use point_darts::dart;
 use point_darts::dart::Dart;
+use sheet_size::Size;
 use table_entries::entry;
 
 // The last dart of a run, and the dart after it.
@@ -22,17 +22,15 @@ fn last(steps: u16, next: &[u16], kept: &[u16], start: u16) -> Run
     ensures { (result.dart ≡ last_of steps next.now kept.now start) ×
         (result.after ≡ at next.now result.dart) }
 {
-    let mut left = steps;
     let mut dart = start;
     let mut after = next[start as usize];
-    while 0 < left {
+    for _ in 0..steps {
         if kept[Dart { number: after }.point() as usize] == 1 {
             return Run { dart, after };
         }
         let past = next[after as usize];
         dart = after;
         after = past;
-        left -= 1;
     }
     Run { dart, after }
 }
@@ -101,7 +99,8 @@ fn link_dart(
     link_run(width, steps, next1, kept, next, other, d);
 }
 
-// Links the four darts that leave a point, if it is kept.
+// Links the four darts that leave a point, if it is kept. By four calls: with a loop over the directions, the whole of level 3
+// takes 2 to 4 in 100 longer.
 fn link_point(
     width: u16,
     steps: u16,
@@ -157,27 +156,18 @@ fn link_point(
 
 // The tables of next and other of the level that keeps some points, from level 1 next and the kept points. Each run is gone
 // once, for both of its ends.
-pub fn links(
-    width: u16,
-    height: u16,
-    next1: &[u16],
-    kept: &[u16],
-    next: &mut [u16],
-    other: &mut [u16],
-)
-    requires { (within width height ≡ true) × (length next.old ≡ slots width height) ×
-        (length other.old ≡ slots width height) × (length next1.now ≡ slots width height) ×
-        (length kept.now ≡ points width height) × TwoWay width (slots width height) next1.now kept.now }
-    ensures { (next.new ≡ along_next width height next1.now kept.now) ×
-        (other.new ≡ along_other width height next1.now kept.now) }
+pub fn links(size: Size, next1: &[u16], kept: &[u16], next: &mut [u16], other: &mut [u16])
+    requires { (length next.old ≡ slots size.width size.height) ×
+        (length other.old ≡ slots size.width size.height) × (length next1.now ≡ slots size.width size.height) ×
+        (length kept.now ≡ points size.width size.height) × TwoWay size.width (slots size.width size.height) next1.now kept.now }
+    ensures { (next.new ≡ along_next size.width size.height next1.now kept.now) ×
+        (other.new ≡ along_other size.width size.height next1.now kept.now) }
 {
-    let steps = dart::slots(width, height);
-    let n = dart::points(width, height);
+    let steps = dart::slots(size);
+    let n = dart::points(size);
     entry::fill(next, dart::MARK);
     entry::fill(other, dart::MARK);
-    let mut p: u16 = 0;
-    while p < n {
-        link_point(width, steps, next1, kept, next, other, p);
-        p += 1;
+    for p in 0..n {
+        link_point(size.width, steps, next1, kept, next, other, p);
     }
 }

@@ -1,6 +1,5 @@
-ghost use Rattle.std.specs.Prelude.{◌≡◌, true, ◌||◌, ◌&&◌, not, eqb, length, get_or, set, ◌*◌, ◌-◌, ◌≤◌, ◌<◌};
+ghost use Rattle.std.specs.Prelude.{◌≡◌, ◌||◌, ◌&&◌, not, eqb, length, get_or, set, ◌*◌, ◌-◌, ◌≤◌, ◌<◌};
 ghost use Rattle.laws.specs.Table.{table, number};
-ghost use Rattle.sheet_size.specs.Size.{within};
 ghost use Rattle.point_darts.specs.Dart.{points};
 ghost use Rattle.point_rules.specs.Turn.{becomes_of};
 ghost use Rattle.paper.specs.Joining.{at};
@@ -9,6 +8,7 @@ ghost use Rattle.level_kept.specs.Keep.{large, stands, settles, bends, keeps};
 
 use point_darts::dart;
 use point_rules::turn;
+use sheet_size::Size;
 use table_entries::entry;
 
 // 1 for a point with three or four lines, or with a corner; else 0.
@@ -25,17 +25,16 @@ fn bend(kinds: &[u16; 16], lines: u16) -> u16
     0
 }
 
-// The points that level 2 keeps: those with three or four lines, or with a corner.
+// The points that level 2 keeps: those with three or four lines, or with a corner. No limit is asked of the width and the height, so
+// they are no Size.
 pub fn bends(width: u16, height: u16, masks: &[u16], kept: &mut [u16])
     requires { (length masks.now ≡ points width height) × (length kept.old ≡ points width height) }
     ensures { kept.new ≡ bends width height masks.now }
 {
     let kinds = turn::kinds();
     let n = kept.len();
-    let mut i = 0;
-    while i < n {
+    for i in 0..n {
         kept[i] = bend(&kinds, masks[i]);
-        i += 1;
     }
 }
 
@@ -46,23 +45,14 @@ fn is_large(lines: u16) -> bool
     (lines == 7) | (lines == 11) | ((12 < lines) & (lines < 16))
 }
 
-// 1 where a test is passed, else 0.
-fn number(test: bool) -> u16
-    ensures { result ≡ number test }
-{
-    if test { 1 } else { 0 }
-}
-
 // A flag for each point with three or four lines.
 fn larges(masks: &[u16], kept: &mut [u16])
     requires { length masks.now ≡ length kept.old }
     ensures { kept.new ≡ table (length kept.old) (λ p. number (large masks.now p)) }
 {
     let n = kept.len();
-    let mut i = 0;
-    while i < n {
-        kept[i] = number(is_large(masks[i]));
-        i += 1;
+    for i in 0..n {
+        kept[i] = u16::from(is_large(masks[i]));
     }
 }
 
@@ -90,22 +80,20 @@ fn flag(masks: &[u16], tops: &[u16], kept: &mut [u16])
     if n == 0 {
         return;
     }
-    let mut i = 0;
     let mut flag = kept[0];
-    while i + 1 < n {
+    for i in 0..n - 1 {
         let after = kept[i + 1];
         raise(tops, kept, i, flag);
         flag = after;
-        i += 1;
     }
-    raise(tops, kept, i, flag);
+    raise(tops, kept, n - 1, flag);
 }
 
 // 1 for a point with three or four lines, and for one with lines that is its own top and has no flag; else 0.
 fn settled(lines: u16, top: u16, p: u16, flag: u16) -> u16
     ensures { result ≡ number (eqb (becomes_of lines 0) 3 || (not (eqb lines 0) && eqb top p && not (eqb flag 1))) }
 {
-    number(is_large(lines) | ((lines != 0) & (top == p) & (flag != 1)))
+    u16::from(is_large(lines) | ((lines != 0) & (top == p) & (flag != 1)))
 }
 
 // The flags of so many points give way to the points that level 3 keeps.
@@ -113,21 +101,19 @@ fn settle(masks: &[u16], tops: &[u16], kept: &mut [u16], n: u16)
     requires { (length masks.now ≡ n) × (length tops.now ≡ n) × (length kept.old ≡ n) }
     ensures { kept.new ≡ table n (settles masks.now tops.now kept.old) }
 {
-    let mut p: u16 = 0;
-    while p < n {
+    for p in 0..n {
         let i = p as usize;
         kept[i] = settled(masks[i], tops[i], p, kept[i]);
-        p += 1;
     }
 }
 
 // The points that level 3 keeps, from the tops of the pieces: those with three or four lines, and the anchors.
-pub fn keeps(width: u16, height: u16, masks: &[u16], tops: &[u16], kept: &mut [u16])
-    requires { (within width height ≡ true) × (length masks.now ≡ points width height) ×
-        (length tops.now ≡ points width height) × (length kept.old ≡ points width height) ×
+pub fn keeps(size: Size, masks: &[u16], tops: &[u16], kept: &mut [u16])
+    requires { (length masks.now ≡ points size.width size.height) ×
+        (length tops.now ≡ points size.width size.height) × (length kept.old ≡ points size.width size.height) ×
         Rising tops.now }
-    ensures { kept.new ≡ keeps width height masks.now tops.now }
+    ensures { kept.new ≡ keeps size.width size.height masks.now tops.now }
 {
     flag(masks, tops, kept);
-    settle(masks, tops, kept, dart::points(width, height));
+    settle(masks, tops, kept, dart::points(size));
 }

@@ -1,5 +1,4 @@
-ghost use Rattle.std.specs.Prelude.{◌≡◌, true, cond, ℕ, ◌+◌, ◌*◌, ◌-◌, ◌≤◌, ◌<◌, eqb, length};
-ghost use Rattle.sheet_size.specs.Size.{within};
+ghost use Rattle.std.specs.Prelude.{◌≡◌, cond, ℕ, ◌+◌, ◌*◌, ◌-◌, ◌≤◌, ◌<◌, eqb, length};
 ghost use Rattle.point_darts.specs.Dart.{mark, points, slots, dart, reversal};
 ghost use Rattle.point_rules.specs.Turn.{turn_of};
 ghost use Rattle.paper.specs.Joining.{at};
@@ -9,6 +8,7 @@ ghost use Rattle.level_lines.specs.Line.{onward, nexts, others, entry_of};
 use point_darts::dart;
 use point_darts::dart::{Dart, Four};
 use point_rules::turn;
+use sheet_size::Size;
 use table_entries::entry;
 
 // A value where a line is present, that is, its bit is 1; else the mark.
@@ -95,36 +95,32 @@ fn lines_beside(masks: &[u16], p: u16, south: u16, north: u16) -> Four
 // The table of next of the lines that the masks have: at the far point the first line present of right turn, straight on,
 // left turn and back. North of the first row of points stands point 0, and south of the last row none, so each of the two is a
 // pass of its own. The first and the last point are taken alone.
-pub fn nexts(width: u16, height: u16, masks: &[u16], next: &mut [u16])
-    requires { (within width height ≡ true) × (length masks.now ≡ points width height) ×
-        (length next.old ≡ slots width height) }
-    ensures { next.new ≡ nexts width height masks.now }
+pub fn nexts(size: Size, masks: &[u16], next: &mut [u16])
+    requires { (length masks.now ≡ points size.width size.height) ×
+        (length next.old ≡ slots size.width size.height) }
+    ensures { next.new ≡ nexts size.width size.height masks.now }
 {
-    let n = dart::points(width, height);
-    let row = width + 1;
-    next_at(width, masks, next, 0);
-    let mut p: u16 = 1;
-    while p < row {
-        let far = dart::besides(p, width);
+    let n = dart::points(size);
+    let row = size.width + 1;
+    next_at(size.width, masks, next, 0);
+    for p in 1..row {
+        let far = dart::besides(p, size.width);
         let lines = lines_beside(masks, p, masks[(p + row) as usize], masks[0]);
         put_present(masks, next, p, follow_four(far, lines));
-        p += 1;
     }
-    while p < n - row {
-        let far = dart::besides(p, width);
+    for p in row..n - row {
+        let far = dart::besides(p, size.width);
         let south = masks[(p + row) as usize];
         let north = masks[(p - row) as usize];
         let lines = lines_beside(masks, p, south, north);
         put_present(masks, next, p, follow_four(far, lines));
-        p += 1;
     }
-    while p < n - 1 {
-        let far = dart::besides(p, width);
+    for p in n - row..n - 1 {
+        let far = dart::besides(p, size.width);
         let lines = lines_beside(masks, p, dart::MARK, masks[(p - row) as usize]);
         put_present(masks, next, p, follow_four(far, lines));
-        p += 1;
     }
-    next_at(width, masks, next, p);
+    next_at(size.width, masks, next, n - 1);
 }
 
 // Other of the four darts that leave a point: the reversals.
@@ -136,15 +132,13 @@ fn other_at(width: u16, masks: &[u16], other: &mut [u16], p: u16)
 }
 
 // The table of other of the lines that the masks have: the reversals.
-pub fn others(width: u16, height: u16, masks: &[u16], other: &mut [u16])
-    requires { (within width height ≡ true) × (length masks.now ≡ points width height) ×
-        (length other.old ≡ slots width height) }
-    ensures { other.new ≡ others width height masks.now }
+pub fn others(size: Size, masks: &[u16], other: &mut [u16])
+    requires { (length masks.now ≡ points size.width size.height) ×
+        (length other.old ≡ slots size.width size.height) }
+    ensures { other.new ≡ others size.width size.height masks.now }
 {
-    let n = dart::points(width, height);
-    let mut p: u16 = 0;
-    while p < n {
-        other_at(width, masks, other, p);
-        p += 1;
+    let n = dart::points(size);
+    for p in 0..n {
+        other_at(size.width, masks, other, p);
     }
 }

@@ -1,5 +1,4 @@
-ghost use Rattle.std.specs.Prelude.{◌≡◌, true, ◌+◌, ◌<◌, length};
-ghost use Rattle.sheet_size.specs.Size.{within};
+ghost use Rattle.std.specs.Prelude.{◌≡◌, ◌+◌, ◌<◌, length};
 ghost use Rattle.point_darts.specs.Dart.{points, slots, dart};
 ghost use Rattle.table_entries.specs.Pointed.{pointed};
 ghost use Rattle.level_lines.specs.Line.{entry_of};
@@ -10,6 +9,7 @@ use level_masks::mask;
 use point_cells::point;
 use point_darts::dart;
 use point_darts::dart::{Dart, Four};
+use sheet_size::Size;
 
 // The sides of the four darts that leave a point.
 fn side_at(width: u16, framed: &[u16], masks: &[u16], side: &mut [u16], p: u16)
@@ -28,15 +28,13 @@ fn side_at(width: u16, framed: &[u16], masks: &[u16], side: &mut [u16], p: u16)
 }
 
 // The table of sides of the lines that the masks have, from the names with the outside round them.
-pub fn sides(width: u16, height: u16, framed: &[u16], masks: &[u16], side: &mut [u16])
-    requires { (within width height ≡ true) × (length framed.now ≡ points width height + width + 2) ×
-        (length masks.now ≡ points width height) × (length side.old ≡ slots width height) }
-    ensures { side.new ≡ sides width height framed.now masks.now }
+pub fn sides(size: Size, framed: &[u16], masks: &[u16], side: &mut [u16])
+    requires { (length framed.now ≡ points size.width size.height + size.width + 2) ×
+        (length masks.now ≡ points size.width size.height) × (length side.old ≡ slots size.width size.height) }
+    ensures { side.new ≡ sides size.width size.height framed.now masks.now }
 {
-    let n = dart::points(width, height);
-    let mut p: u16 = 0;
-    while p < n {
-        side_at(width, framed, masks, side, p);
-        p += 1;
+    let n = dart::points(size);
+    for p in 0..n {
+        side_at(size.width, framed, masks, side, p);
     }
 }

@@ -1,11 +1,11 @@
-ghost use Rattle.std.specs.Prelude.{◌≡◌, true, ◌+◌, ◌*◌, ◌<◌, ◌≤◌, ltb, length};
+ghost use Rattle.std.specs.Prelude.{◌≡◌, ◌+◌, ◌*◌, ◌<◌, ◌≤◌, ltb, length};
 ghost use Rattle.laws.specs.Table.{number};
-ghost use Rattle.sheet_size.specs.Size.{within};
 ghost use Rattle.point_darts.specs.Dart.{points};
 ghost use Rattle.level_masks.specs.Mask.{around, masked, ruled, plain_masks};
 
 use point_cells::point;
 use point_darts::dart;
+use sheet_size::Size;
 
 // The four cells round a point, from the names with the outside round them.
 pub fn around(width: u16, framed: &[u16], p: u16) -> [[u16; 2]; 2]
@@ -21,16 +21,14 @@ pub fn around(width: u16, framed: &[u16], p: u16) -> [[u16; 2]; 2]
 }
 
 // The lines of level 1 at each point: those with two sides that differ.
-pub fn masks(width: u16, height: u16, framed: &[u16], masks: &mut [u16])
-    requires { (within width height ≡ true) × (length framed.now ≡ points width height + width + 2) ×
-        (length masks.old ≡ points width height) }
-    ensures { masks.new ≡ masked width height framed.now }
+pub fn masks(size: Size, framed: &[u16], masks: &mut [u16])
+    requires { (length framed.now ≡ points size.width size.height + size.width + 2) ×
+        (length masks.old ≡ points size.width size.height) }
+    ensures { masks.new ≡ masked size.width size.height framed.now }
 {
-    let n = dart::points(width, height);
-    let mut p: u16 = 0;
-    while p < n {
-        masks[p as usize] = point::present(around(width, framed, p));
-        p += 1;
+    let n = dart::points(size);
+    for p in 0..n {
+        masks[p as usize] = point::present(around(size.width, framed, p));
     }
 }
 
@@ -41,7 +39,7 @@ fn where_below(a: u16, b: u16, value: u16) -> u16
     if a < b { value } else { 0 }
 }
 
-// The mask of the lines of the sheet at the point in column x and row y.
+// The mask of the lines of the sheet at the point in column x and row y, of any width and height.
 fn ruling(width: u16, height: u16, x: u16, y: u16) -> u16
     ensures { result ≡
         number (ltb x width) + 2 * number (ltb y height) + 4 * number (ltb 0 x) + 8 * number (ltb 0 y) }
@@ -54,19 +52,17 @@ fn ruling(width: u16, height: u16, x: u16, y: u16) -> u16
 }
 
 // The lines of level 0 at each point: every line of the sheet.
-pub fn rule(width: u16, height: u16, masks: &mut [u16])
-    requires { (within width height ≡ true) × (length masks.old ≡ points width height) }
-    ensures { masks.new ≡ ruled width height }
+pub fn rule(size: Size, masks: &mut [u16])
+    requires { length masks.old ≡ points size.width size.height }
+    ensures { masks.new ≡ ruled size.width size.height }
 {
     let n = masks.len();
-    let mut i = 0;
     let mut x: u16 = 0;
     let mut y: u16 = 0;
-    while i < n {
-        masks[i] = ruling(width, height, x, y);
-        i += 1;
+    for i in 0..n {
+        masks[i] = ruling(size.width, size.height, x, y);
         x += 1;
-        if width < x {
+        if size.width < x {
             x = 0;
             y += 1;
         }
@@ -74,14 +70,14 @@ pub fn rule(width: u16, height: u16, masks: &mut [u16])
 }
 
 // The lines of level 0 or 1 at each point.
-pub fn draft(width: u16, height: u16, level: u16, framed: &[u16], lines: &mut [u16])
-    requires { (within width height ≡ true) × (length framed.now ≡ points width height + width + 2) ×
-        (length lines.old ≡ points width height) }
-    ensures { lines.new ≡ plain_masks width height level framed.now }
+pub fn draft(size: Size, level: u16, framed: &[u16], lines: &mut [u16])
+    requires { (length framed.now ≡ points size.width size.height + size.width + 2) ×
+        (length lines.old ≡ points size.width size.height) }
+    ensures { lines.new ≡ plain_masks size.width size.height level framed.now }
 {
     if level == 0 {
-        rule(width, height, lines);
+        rule(size, lines);
         return;
     }
-    masks(width, height, framed, lines);
+    masks(size, framed, lines);
 }

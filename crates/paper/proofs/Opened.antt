@@ -64,7 +64,8 @@ unfolding at on between shared chase removed rest1 rest3 low high spliced smooth
 joins_open = tt
 
 refusals_open : Unit {0}
-unfolding sized cleared work_left outcome level_tests level_refusal level_tables levelled seven stated draw_tests draw_refusal mapped size_tests
+unfolding
+    sized cleared work_left outcome level_tests level_refusal level_tables levelled seven stated draw_tests draw_refusal mapped size_tests
 refusals_open = tt
 
 names_open : Unit {0}

@@ -194,17 +194,32 @@ calls =
     ∷ record { computed = started 111 1 [] [] (rubbish 3) (works 16 17); stated = refused 1 (seven (rubbish 3)) (works 16 17) }
     ∷ record { computed = started 1 1 [] [] (rubbish 3) (works 16 17); stated = refused 3 (seven (rubbish 3)) (works 16 17) }
     ∷ record { computed = started 1 1 (65 ∷ []) (1 ∷ []) (rubbish 2) (works 16 16); stated = refused 4 (seven (rubbish 2)) (works 16 16) }
-    ∷ record { computed = started 1 1 (65 ∷ []) (1 ∷ 3 ∷ []) (rubbish 3) (works 16 16); stated = refused 4 (seven (rubbish 3)) (works 16 16) }
+    ∷ record {
+      computed = started 1 1 (65 ∷ []) (1 ∷ 3 ∷ []) (rubbish 3) (works 16 16);
+      stated = refused 4 (seven (rubbish 3)) (works 16 16);
+    }
     ∷ record { computed = started 1 1 (65 ∷ []) (1 ∷ 3 ∷ []) (rubbish 2) (works 16 16); stated = refused 11 (seven (rubbish 2)) (clean 16) }
     ∷ record { computed = started 1 1 (65 ∷ []) (1 ∷ 0 ∷ []) (rubbish 2) (works 16 16); stated = refused 11 (seven (rubbish 2)) (clean 16) }
     ∷ record { computed = started 1 1 (65 ∷ []) (7 ∷ 2 ∷ []) (rubbish 2) (works 16 16); stated = ended 0 [] (seven one) (clean 16) }
     -- joining as an editor
     ∷ record { computed = edited 1 0 [] (rubbish 3) (call 3 0 0 (works 16 17)); stated = refused 1 (seven (rubbish 3)) (works 16 17) }
     ∷ record { computed = edited 1 1 (1 ∷ []) (rubbish 2) (call 3 0 0 (works 16 16)); stated = refused 4 (seven (rubbish 2)) (works 16 16) }
-    ∷ record { computed = edited 1 1 (1 ∷ 3 ∷ []) (rubbish 3) (call 3 0 0 (works 16 16)); stated = refused 4 (seven (rubbish 3)) (works 16 16) }
-    ∷ record { computed = edited 1 1 (1 ∷ 1 ∷ []) (rubbish 2) (call 3 0 0 (works 16 16)); stated = refused 11 (seven (rubbish 2)) (clean 16) }
-    ∷ record { computed = edited 1 1 (1 ∷ 0 ∷ []) (rubbish 2) (call 1 0 0 (works 16 16)); stated = refused 11 (seven (rubbish 2)) (clean 16) }
-    ∷ record { computed = edited 1 1 (7 ∷ 2 ∷ []) (rubbish 2) (call 1 0 0 (works 16 16)); stated = refused 5 (seven (rubbish 2)) (clean 16) }
+    ∷ record {
+      computed = edited 1 1 (1 ∷ 3 ∷ []) (rubbish 3) (call 3 0 0 (works 16 16));
+      stated = refused 4 (seven (rubbish 3)) (works 16 16);
+    }
+    ∷ record {
+      computed = edited 1 1 (1 ∷ 1 ∷ []) (rubbish 2) (call 3 0 0 (works 16 16));
+      stated = refused 11 (seven (rubbish 2)) (clean 16);
+    }
+    ∷ record {
+      computed = edited 1 1 (1 ∷ 0 ∷ []) (rubbish 2) (call 1 0 0 (works 16 16));
+      stated = refused 11 (seven (rubbish 2)) (clean 16);
+    }
+    ∷ record {
+      computed = edited 1 1 (7 ∷ 2 ∷ []) (rubbish 2) (call 1 0 0 (works 16 16));
+      stated = refused 5 (seven (rubbish 2)) (clean 16);
+    }
     ∷ record { computed = edited 2 1 (0 ∷ 2 ∷ 2 ∷ []) two (call 1 0 0 (works 24 24)); stated = refused 6 (seven two) (clean 24) }
     ∷ record { computed = edited 2 1 (0 ∷ 2 ∷ 2 ∷ []) two (call 1 3 3 (works 24 24)); stated = refused 7 (seven two) (clean 24) }
     ∷ record { computed = edited 2 1 (0 ∷ 1 ∷ 1 ∷ []) two (call 1 1 3 (works 24 24)); stated = refused 10 (seven two) (clean 24) }
@@ -260,7 +275,8 @@ grouped_hold = refl
 -- A mixture of calls in P7: each editor joins a column, and is refused the other's regions and what is joined already.
 mixture : List Call
 mixture =
-    call 1 1 3 (works 36 36) ∷ call 2 2 1 (works 36 36) ∷ call 2 4 2 (works 36 36) ∷ call 1 1 2 (works 36 36) ∷ call 1 3 1 (works 36 36) ∷ []
+    call 1 1 3 (works 36 36) ∷ call 2 2 1 (works 36 36) ∷ call 2 4 2 (works 36 36) ∷ call 1 1 2 (works 36 36)
+    ∷ call 1 3 1 (works 36 36) ∷ []
 
 replies_hold : replies_to 1 2 2 lands four mixture ∷ replies_to 2 2 2 lands four mixture ∷ replies_to 2 2 2 lands four (own 2 mixture) ∷ []
     ≡ (0 ∷ 10 ∷ 10 ∷ []) ∷ (10 ∷ 0 ∷ []) ∷ (10 ∷ 0 ∷ []) ∷ []

@@ -1,4 +1,4 @@
--- Two editors at one sheet (request T-06). Every name from 1 to W-as-H, used or not, has an owner, editor 1 or editor 2; an editor joins
+-- Two editors at one sheet (request T-06). Every name from 1 to W·H, used or not, has an owner, editor 1 or editor 2; an editor joins
 -- only regions of their own.
 --   is_editor e      == e is the number of an editor
 --   owned o         == every name has an owner, by the table o; entry 0 is not read

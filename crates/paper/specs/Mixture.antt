@@ -32,5 +32,5 @@ region w h t i = label (recovered w h t.side1) i
 pub record SameRegion (w h r : ℕ) (t u : Tables) : Type 0 where
   pub present : used t.parent r ≡ used u.parent r
   pub cells : (i : ℕ) → i < w * h → eqb (region w h t i) r ≡ eqb (region w h u i) r
-  pub cell_total_lem : at t.cells r ≡ at u.cells r
+  pub cell_total : at t.cells r ≡ at u.cells r
   pub border_total : at t.borders r ≡ at u.borders r

@@ -8,7 +8,8 @@
 --                      sheet's length, k says that the lengths of the tables are the stated ones
 --   .. Refusal      == the number of the first refusal, 0 for none
 --   levelled, mapped, merged, deepened, holed == the outcomes of level drawing, whole drawing, joining, depth and hole count
-use Rattle.std.specs.Prelude.{Bool, true, cond, not, ◌&&◌, ◌||◌, List, [], ◌∷◌, ◌++◌, map, ℕ, zero, suc, ◌+◌, ◌*◌, eqb, leb, ltb, length, replicate}
+use Rattle.std.specs.Prelude.{Bool, true, cond, not, ◌&&◌, ◌||◌, List, [], ◌∷◌, ◌++◌, map, length, replicate}
+use Rattle.std.specs.Prelude.{ℕ, zero, suc, ◌+◌, ◌*◌, eqb, leb, ltb}
 use Rattle.laws.specs.Table.{some}
 use Rattle.laws.specs.First.{first_failed}
 use Rattle.sheet_size.specs.Size.{within}

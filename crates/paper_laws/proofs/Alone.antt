@@ -133,9 +133,9 @@ module _ (w h : ℕ) (room : slots w h ≤ mark) (t u : Tables) (d : Drawn w h t
     abbrev m : List ℕ
     m = names w h f.labels
 
-    cell_total_lem : at t.cells r ≡ at u.cells r
+    cell_total : at t.cells r ≡ at u.cells r
     unfolding drawing drawn
-    cell_total_lem =
+    cell_total =
         let p = cells_alone w h r n m (borne r e) in
         rw (← d.same, ← f.same) (totals_alone w h r (cells_of w h n) (cells_of w h n) (cells_of w h m) (cells_of w h m) p p)
 
@@ -149,10 +149,10 @@ module _ (w h : ℕ) (room : slots w h ≤ mark) (t u : Tables) (d : Drawn w h t
     present : r ≢ 0 → used t.parent r ≡ used u.parent r
     unfolding used on
     present z =
-        sym (used_cells w h room t d r z) ∙ ap (λ k. not (eqb k mark)) cell_total_lem ∙ used_cells w h room u f r z
+        sym (used_cells w h room t d r z) ∙ ap (λ k. not (eqb k mark)) cell_total ∙ used_cells w h room u f r z
 
     pub region_alone : r ≢ 0 → SameRegion w h r t u
-    region_alone z = record { present = present z; cells = e; cell_total_lem = cell_total_lem; border_total = border_total }
+    region_alone z = record { present = present z; cells = e; cell_total = cell_total; border_total = border_total }
 
   -- whether two regions share a line
   pub adjoin_alone : (a b : ℕ) → a ≢ mark → b ≢ mark → SameCells w h a t u → SameCells w h b t u

@@ -1,5 +1,5 @@
 -- The names of the cells, by column and row of a place.
---   named w h n x y == the name of the cell north_west of the place in column x and row y; 0 off the sheet
+--   named w h n x y == the name of the cell north-west of the place in column x and row y; 0 off the sheet
 --   block a b c d   == the four cells: a and b in the north, c and d in the south
 use mathlib.Core.Path.{◌≡◌, refl, sym, ap, ◌∙◌}
 use mathlib.Core.Bool.{Bool, true, false, cond, ◌&&◌, and-false}
@@ -49,11 +49,11 @@ module _ (w h : ℕ) (n : List ℕ) where
 
 -- renaming the cells, the outside keeping its name 0, renames both hands
 module _ (w h : ℕ) (n : List ℕ) (f : ℕ → ℕ) (z : f 0 ≡ 0) where
-  get_d_map : (i : ℕ) → get_or (map f n) i 0 ≡ f (get_or n i 0)
-  get_d_map i = rw z at (ListN.get_or-map f n i 0)
+  get_or_map : (i : ℕ) → get_or (map f n) i 0 ≡ f (get_or n i 0)
+  get_or_map i = rw z at (ListN.get_or-map f n i 0)
 
   cond_map : (b : Bool) (i : ℕ) → cond b (get_or (map f n) i 0) 0 ≡ f (cond b (get_or n i 0) 0)
-  cond_map true i = get_d_map i
+  cond_map true i = get_or_map i
   cond_map false i = sym z
 
   pub named_map : (x y : ℕ) → named w h (map f n) x y ≡ f (named w h n x y)

@@ -85,7 +85,9 @@ module _ (w h : ℕ) (o : List ℕ) where
   -- a call that is done has passed the tests of its names
   call_own : (t : Tables) (c : Call) → reply w h o t c ≡ 0 → first_failed (own_tests w h o t.side1 t.parent c.editor c.a c.b) ≡ 0
   unfolding reply call_tests size_tests first_failed
-  call_own t c z = let p = all_passed 1 12 (lit< tt) (call_tests w h o t c) (call_numbered t c) z in rw (p.0, p.1.0, p.1.1.0, p.1.1.1.0) at z
+  call_own t c z =
+      let p = all_passed 1 12 (lit< tt) (call_tests w h o t c) (call_numbered t c) z in
+      rw (p.0, p.1.0, p.1.1.0, p.1.1.1.0) at z
 
   pub call_joinable : (t : Tables) (c : Call) → reply w h o t c ≡ 0 → Joinable w h t c.a c.b
   call_joinable t c z = own_joinable t c.editor c.a c.b (call_own t c z)

@@ -2,7 +2,7 @@
 --   top w h on p    == the least point of the piece of p
 --   Head w h on t   == t is the least point of a piece that has a line
 --   top_side w i     == the dart that runs east along the top side of cell i
---   round w h n i   == the region round the piece at the north_west corner of cell i
+--   round w h n i   == the region round the piece at the north-west corner of cell i
 --   Used w h n r    == the name r is borne by its own cell
 --   parents ..      == the table of parents, by name: the region round the piece at the name's cell, or the mark
 --   parentage w h n == that table, of the sheet with the names n
@@ -108,7 +108,7 @@ module _ (w h : ℕ) (n : List ℕ) {t : ℕ} (s : Head w h (border w h n) t) wh
   pub head_east : border w h n (dart t 0) ≡ true
   head_east = head_lines.0
 
-  -- its north_west, north_east and south_west cells are one
+  -- its north-west, north-east and south-west cells are one
   head_hands : (k : ℕ) → k < 4 → border w h n (dart t k) ≡ false → right (cells w h n t) k ≡ left (cells w h n t) k
   unfolding border
   head_hands k b e = parts_false (cells w h n t) k (rw (point_dart t k b, direction_dart t k b) at e)

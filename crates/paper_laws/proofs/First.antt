@@ -1,5 +1,5 @@
 -- The cells by column and row, and the darts along their top sides.
---   named w h n x y == the name of the cell north_west of the place in column x and row y; 0 off the sheet
+--   named w h n x y == the name of the cell north-west of the place in column x and row y; 0 off the sheet
 --   Touch x y u v   == the cell in column u and row v is one of the four round the place in column x and row y
 --   top_side w i     == the dart that runs east along the top side of cell i
 --   every_cell      == a law of the cells by column and row is a law of every cell
@@ -49,7 +49,7 @@ module _ (w h : ℕ) (n : List ℕ) where
   unfolding named
   named_cell x y a b = rw (lt-ltb x w a, lt-ltb y h b)
 
-  -- the name of a place is 0, or that of the cell north_west of it
+  -- the name of a place is 0, or that of the cell north-west of it
   pub named_cases : (P : ℕ → Type 0) (x y : ℕ) → P 0
       → ((a b : ℕ) → x ≡ suc a → y ≡ suc b → a < w → b < h → P (get_or n (b * w + a) 0)) → P (named w h n x y)
   unfolding named

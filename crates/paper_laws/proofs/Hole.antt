@@ -3,8 +3,8 @@
 --   Head w h on t   == t is the least point of a piece that has a line
 --   top_side w i     == the dart that runs east along the top side of cell i
 --   inner w h n t x y == the cell in column x and row y lies inside the piece with the least point t
---   nook w h n t    == the name of the cell north_west of the point t
---   head_first      == south_east of the least point of a piece is the first cell of a region
+--   nook w h n t    == the name of the cell north-west of the point t
+--   head_first      == south-east of the least point of a piece is the first cell of a region
 --   parentage w h n == the table of parents, by name
 --   piece_in w h n r p == p is the least point of a piece that the region r lies round
 --   hole .. r p     == the piece p is the outer piece of some region whose parent is r
@@ -53,7 +53,7 @@ module _ (w h : ℕ) (n : List ℕ) (t : ℕ) (s : Head w h (border w h n) t) wh
   abbrev y : ℕ
   y = t / (w + 1)
 
-  -- its north_west, north_east and south_west cells are one
+  -- its north-west, north-east and south-west cells are one
   head_north_named : named w h n x y ≡ named w h n (suc x) y
   unfolding corner cells
   head_north_named = head_north_cells w h n s
@@ -62,7 +62,7 @@ module _ (w h : ℕ) (n : List ℕ) (t : ℕ) (s : Head w h (border w h n) t) wh
   unfolding corner cells
   head_west_named = head_west_cells w h n s
 
-  -- and its south_east cell is another
+  -- and its south-east cell is another
   head_apart : named w h n (suc x) (suc y) ≢ named w h n x y
   head_apart e =
       let l : x ≤ w = column_below w t in

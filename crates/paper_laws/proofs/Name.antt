@@ -21,7 +21,7 @@ use lib.ListN.{length, get_or, length-map}
 use lib.Seq.{ext_get_or}
 use Rattle.laws.specs.Least.{least, ties, tie, lower}
 use Rattle.laws.specs.Table.{table, listed}
-use Rattle.laws.proofs.Table.{get_d_map}
+use Rattle.laws.proofs.Table.{get_or_map}
 use Rattle.laws.proofs.Least.{
   lower_cases,
   lower_left,
@@ -152,7 +152,7 @@ module _ (w h : ℕ) (s : List ℕ) where
 
   name_suc : (i : ℕ) → i < w * h → get_or (names w h s) i 0 ≡ suc (get_or (firsts w h s) i 0)
   unfolding names
-  name_suc i b = get_d_map suc (firsts w h s) i 0 0 (rw length_least b)
+  name_suc i b = get_or_map suc (firsts w h s) i 0 0 (rw length_least b)
 
   pub length_names : length (names w h s) ≡ w * h
   unfolding names

@@ -1,6 +1,6 @@
 -- The regions beside a piece of lines: each lies round the piece, or the piece is its outer one.
 --   top w h on p    == the least point of the piece of p
---   nook w h n t    == the name of the cell north_west of the point t: if t is the least of a piece, the region round it
+--   nook w h n t    == the name of the cell north-west of the point t: if t is the least of a piece, the region round it
 --   inner w h n t x y == the cell in column x and row y lies inside the piece with the least point t
 --   Touch x y u v   == the cell in column u and row v is one of the four round the place in column x and row y
 --   Amid w h P x y  == in the row of the cell, and in its column, cells before and after it have P

@@ -1,11 +1,11 @@
 -- The cells inside a piece of lines: those from which the way west to the edge crosses an odd number of the piece's
 -- lines that have the region round the piece on one side.
 --   top w h on p    == the least point of the piece of p
---   of_region w h n q x y == the cell north_west of the place in column x and row y has the name q
+--   of_region w h n q x y == the cell north-west of the place in column x and row y has the name q
 --   of_piece w h n t x y  == that place is of the piece whose least point is t
 --   Edged w h e t   == where exactly one of two cells is of the region e, the ends of the line between them are both of
 --                      the piece t or both not; and off the sheet there are no such cells
---   nook w h n t    == the name of the cell north_west of the point t: if t is the least of a piece, the region round it
+--   nook w h n t    == the name of the cell north-west of the point t: if t is the least of a piece, the region round it
 --   inner w h n t x y == west of the cell is an odd number of the lines of the piece t between its nook and others
 --   Touch x y u v   == the cell in column u and row v is one of the four round the place in column x and row y
 --   parted .. x y   == the cell lies inside or is of the region round the piece, and not both
@@ -122,7 +122,7 @@ and_same true false c d e f = clash refl e
 and_same false true c d e f = clash refl (sym e)
 and_same false false c d e f = refl
 
--- What is one at the four cells round each point of some pieces is one north_west of all points of each of these.
+-- What is one at the four cells round each point of some pieces is one north-west of all points of each of these.
 module _ (w h : ℕ) (n : List ℕ) (f : ℕ → Bool) (g : ℕ → ℕ → Bool)
     (keeps : (x y u v : ℕ) → f (top w h (border w h n) (place w x y)) ≡ true → Touch x y u v → g u v ≡ g x y) where
   -- a point is of one of the pieces
@@ -180,7 +180,7 @@ module _ (w h : ℕ) (n : List ℕ) (f : ℕ → Bool) (g : ℕ → ℕ → Bool
       let t = tops_tops w h (border w h n) (point d) (dart_point w h (border w h n) (border_lines w h n) d o) in
       rw (t, u) at (chain_both d o)
 
--- A cell north_west of a point does not lie inside a piece whose least point is that point or a later one: no place of
+-- A cell north-west of a point does not lie inside a piece whose least point is that point or a later one: no place of
 -- the piece is west of the point in its row.
 outer_before : (w h : ℕ) (n : List ℕ) (t p : ℕ) → p ≤ t → inner w h n t (p % (w + 1)) (p / (w + 1)) ≡ false
 unfolding place
@@ -214,7 +214,7 @@ module _ (w h : ℕ) (n : List ℕ) (t : ℕ) where
   abbrev parted_at : ℕ → Bool
   parted_at p = parted (p % (w + 1)) (p / (w + 1))
 
-  -- the cell north_west of its least point does not lie inside, and is of the region round the piece
+  -- the cell north-west of its least point does not lie inside, and is of the region round the piece
   head_parted : parted_at t ≡ true
   head_parted = rw (outer_before w h n t t (le_refl t), eq-eqb (nook w h n t) (nook w h n t) refl)
 

@@ -1,8 +1,8 @@
 -- The parent of a region lies on all four sides of every cell of the region.
 --   every_beside    == a law of the cells beside each other in rows and in columns is a law of all side-by-side cells
---   round w h n i   == the region round the piece at the north_west corner of cell i
+--   round w h n i   == the region round the piece at the north-west corner of cell i
 --   top_side w i     == the dart that runs east along the top side of cell i
---   nook w h n t    == the name of the cell north_west of the point t
+--   nook w h n t    == the name of the cell north-west of the point t
 --   inner w h n t x y == the cell in column x and row y lies inside the piece with the least point t
 --   Amid w h P x y  == in the row of the cell, and in its column, cells before and after it have P
 --   Used w h n r    == the name r is borne by its own cell

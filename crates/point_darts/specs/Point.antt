@@ -1,4 +1,4 @@
--- The four cells round a point, as two rows of two: ((north_west, north_east), (south_west, south_east)).
+-- The four cells round a point, as two rows of two: ((north-west, north-east), (south-west, south-east)).
 -- A set of lines at a point is a mask: east 1, south 2, west 4, north 8.
 --   bits f          == the mask of the directions that pass the test f
 --   has m k         == the mask m has direction k

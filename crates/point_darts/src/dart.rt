@@ -1,7 +1,9 @@
-ghost use Rattle.std.specs.Prelude.{◌≡◌, true, ◌&&◌, ◌-◌, ◌+◌, ◌*◌, ◌≤◌, ◌<◌};
+ghost use Rattle.std.specs.Prelude.{◌≡◌, ◌&&◌, ◌-◌, ◌+◌, ◌*◌, ◌≤◌, ◌<◌};
 ghost use Rattle.sheet_size.specs.Size.{within};
 ghost use Rattle.point_darts.specs.Dart.{mark, points, slots, dart, made, point, direction, beside, turned, stays, line};
 ghost use Rattle.point_darts.specs.Dart.{reversal, reversed};
+
+use sheet_size::Size;
 
 // "None" in every table of links, sides or parents: never a dart, a point or a name.
 pub const MARK: u16 = 65535;
@@ -13,19 +15,17 @@ pub struct Dart {
 }
 
 // How many points a sheet has: one more than cells to a row, and one more row of them than of cells.
-pub fn points(width: u16, height: u16) -> u16
-    requires { within width height ≡ true }
-    ensures { result ≡ points width height }
+pub fn points(size: Size) -> u16
+    ensures { result ≡ points size.width size.height }
 {
-    (width + 1) * (height + 1)
+    (size.width + 1) * (size.height + 1)
 }
 
 // How many dart numbers a sheet has: four for each point.
-pub fn slots(width: u16, height: u16) -> u16
-    requires { within width height ≡ true }
-    ensures { result ≡ slots width height }
+pub fn slots(size: Size) -> u16
+    ensures { result ≡ slots size.width size.height }
 {
-    4 * points(width, height)
+    4 * points(size)
 }
 
 // The slot of the first of the four darts that leave a point, the one east. The others follow by their directions.
@@ -52,13 +52,6 @@ pub struct Four {
     pub north: u16,
 }
 
-// a less b, or 0 where b is larger.
-fn less(a: u16, b: u16) -> u16
-    ensures { result ≡ a - b }
-{
-    if a < b { 0 } else { a - b }
-}
-
 // The point one line away from a point.
 pub fn beside(point: u16, width: u16, direction: u16) -> u16
     requires { point + (width + 1) < 65536 }
@@ -67,8 +60,8 @@ pub fn beside(point: u16, width: u16, direction: u16) -> u16
     match direction {
         Dart::EAST => point + 1,
         Dart::SOUTH => point + (width + 1),
-        Dart::WEST => less(point, 1),
-        _ => less(point, width + 1),
+        Dart::WEST => point.saturating_sub(1),
+        _ => point.saturating_sub(width + 1),
     }
 }
 
@@ -122,7 +115,7 @@ impl Dart {
     pub const NORTH: u16 = 3;
 
     // The dart that leaves a point in a direction; the mark where the direction is none of the four or the number would
-    // not fit.
+    // not fit. The mark is "none", and no Option, since it is what the tables hold.
     pub fn new(point: u16, direction: u16) -> Dart
         ensures { result.number ≡ made point direction }
     {
@@ -159,7 +152,7 @@ impl Dart {
         self.number % 4
     }
 
-    // Whether the size is one, and the line stays on a sheet of this size.
+    // Whether the size is one, and the line stays on a sheet of this size. Any two numbers are asked, so they are no Size yet.
     pub fn on_sheet(self, width: u16, height: u16) -> bool
         ensures { result ≡ (within width height && line width height self.number) }
     {

@@ -25,7 +25,8 @@ const POINT_TABLE: [u16; 256] = [
     3, 4, 2, 4, 1, 4, 4, 4, 2, 4, 4, 4, 4, 4, 0, 4, 3, 3, 3, 2, 3, 1, 2, 4, 3, 2, 1, 4, 2, 4, 4, 0,
 ];
 
-// The turn that is taken at a point into the line that follows.
+// The turn that is taken at a point into the line that follows. To have none is one of the five answers, and no Option, since request
+// T-05 names five.
 #[derive(Clone, Copy)]
 pub enum Turn {
     Right,

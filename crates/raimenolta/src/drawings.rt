@@ -1,5 +1,6 @@
 // What is asked of a drawing: whether it is one, to join two of its regions or many by a list, the depth and the holes of its regions,
 // and the turns of its curves.
+// C lends each table by itself, so functions that differ in one call have much the same text.
 ghost use Rattle.std.specs.Prelude.{◌≡◌, [], ◌∷◌, ◌++◌};
 ghost use Rattle.paper.specs.Refusal.{ended, seven, merged, deepened, holed};
 ghost use Rattle.paper.specs.Order.{merged_list};
@@ -42,7 +43,7 @@ pub extern "C" fn raimenolta_check(
         width, height, next1, side1, next3, other3, parent, cells, borders, work_a, work_b, work_c,
         work_d,
     );
-    answer.number()
+    answer::number(answer)
 }
 
 // Joins the regions a and b of a drawing, in its seven tables, which come to equal the drawing afresh. Refusals 1, 4, 5, 6,
@@ -89,7 +90,7 @@ pub extern "C" fn raimenolta_join(
         width, height, next1, side1, next3, other3, parent, cells, borders, a, b, work_a, work_b,
         work_c, work_d,
     );
-    joined.number()
+    answer::number(joined)
 }
 
 // Joins by a list of names, two by two, in the seven tables of a drawing, which is checked once: one entry after another, up to the
@@ -251,7 +252,7 @@ pub extern "C" fn raimenolta_counts(
         width, height, next1, side1, next3, other3, parent, cells, borders, depths, holes, work_a,
         work_b, work_c, work_d,
     );
-    answer.number()
+    answer::number(answer)
 }
 
 // The right turns and the left turns of every dart of level 3, the mark at every other slot. Refusals 1, 4 and 5.
@@ -290,5 +291,5 @@ pub extern "C" fn raimenolta_turns(
         width, height, next1, side1, next3, other3, parent, cells, borders, right, left, work_a,
         work_b, work_c, work_d,
     );
-    answer.number()
+    answer::number(answer)
 }

@@ -1,4 +1,5 @@
 // Two editors at one sheet: starting a drawing with owners, and joining as one of the editors.
+// C lends each table by itself, so functions that differ in one call have much the same text.
 ghost use Rattle.std.specs.Prelude.{◌≡◌, []};
 ghost use Rattle.paper.specs.Refusal.{ended, seven};
 ghost use Rattle.paper.specs.Editor.{started, call, edited};
@@ -38,7 +39,7 @@ pub extern "C" fn raimenolta_start(
         width, height, sheet, owners, next1, side1, next3, other3, parent, cells, borders, work_a,
         work_b, work_c, work_d,
     );
-    started.number()
+    answer::number(started)
 }
 
 // Joins the regions a and b of a drawing as one of its editors, in its seven tables, which come to equal the drawing afresh. Refusals 1,
@@ -86,5 +87,5 @@ pub extern "C" fn raimenolta_join_as(
         width, height, next1, side1, next3, other3, parent, cells, borders, owners, editor, a, b,
         work_a, work_b, work_c, work_d,
     );
-    joined.number()
+    answer::number(joined)
 }

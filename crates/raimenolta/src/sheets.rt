@@ -1,4 +1,4 @@
-// Drawing a sheet: one level, or the whole drawing.
+// Drawing a sheet: one level, or the whole drawing. C lends each table by itself.
 ghost use Rattle.std.specs.Prelude.{◌≡◌, [], ◌∷◌};
 ghost use Rattle.paper.specs.Refusal.{ended, levelled, seven, mapped};
 ghost use Rattle.table_lengths.specs.Given.{tables, works};
@@ -27,7 +27,7 @@ pub extern "C" fn raimenolta_level(
     let answer = level_call::draw::draw(
         width, height, level, sheet, next, other, side, work_a, work_b, work_c, work_d,
     );
-    answer.number()
+    answer::number(answer)
 }
 
 // Draws a sheet: its seven tables. Refusals 1, 3 and 4.
@@ -62,5 +62,5 @@ pub extern "C" fn raimenolta_draw(
         width, height, sheet, next1, side1, next3, other3, parent, cells, borders, work_a, work_b,
         work_c, work_d,
     );
-    drawn.number()
+    answer::number(drawn)
 }

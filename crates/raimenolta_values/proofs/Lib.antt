@@ -1,3 +1,0 @@
-mod Place
-mod Refused
-mod Size

@@ -1,16 +1,16 @@
 ghost use Rattle.std.specs.Prelude.{◌≡◌};
-ghost use Rattle.count_answer.specs.Count.{count_number};
+ghost use Rattle.answer.specs.Answer.{number_of};
 ghost use Rattle.raimenolta_values.specs.Put.{count_held};
 
-use count_answer::Count;
+use answer::Refusal;
 
 // Puts a count into a lent slot, which a refusal leaves as it was. Answers the number of the refusal, 0 for done.
-pub fn put(answer: Count, slot: &mut u16) -> u16
-    ensures { (result ≡ count_number answer) × (slot.new ≡ count_held answer slot.old) }
+#[tactic(auto, unfolding(crate::specs::Put::count_held))]
+pub fn put(count: Result<u16, Refusal>, slot: &mut u16) -> u16
+    ensures { (result ≡ number_of count) × (slot.new ≡ count_held count slot.old) }
 {
-    let Count::Is(value) = answer else {
-        return answer.number();
-    };
-    *slot = value;
-    0
+    if let Ok(value) = count {
+        *slot = value;
+    }
+    answer::number(count)
 }

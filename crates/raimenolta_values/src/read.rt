@@ -1,25 +1,24 @@
 ghost use Rattle.std.specs.Prelude.{◌≡◌};
 ghost use Rattle.raimenolta_values.specs.Put.{refusal, size_held, card_held};
 
-use deck_card::answer::Read;
+use deck_card::answer::ReadRefusal;
+use sheet_size::Size;
 
 // Puts the size that a reader answers into one lent slot, or the card that it refused at into another, and leaves the
 // other slot as it was. Answers the number of the refusal, 0 for done.
-pub fn put(answer: Read, size: &mut [u16; 2], card: &mut u16) -> u16
+#[tactic(auto, unfolding(crate::specs::Put::refusal, crate::specs::Put::size_held, crate::specs::Put::card_held))]
+pub fn put(answer: Result<Size, ReadRefusal>, size: &mut [u16; 2], card: &mut u16) -> u16
     ensures { (result ≡ refusal answer) × (size.new ≡ size_held answer size.old) ×
         (card.new ≡ card_held answer card.old) }
 {
     match answer {
-        Read::Sheet { width, height } => {
-            *size = [width, height];
+        Ok(read) => {
+            *size = [read.width, read.height];
             0
         }
-        Read::Refused {
-            number: refusal,
-            card: reached,
-        } => {
-            *card = reached;
-            refusal
+        Err(refusal) => {
+            *card = refusal.card;
+            refusal.fault.into()
         }
     }
 }

@@ -11,7 +11,7 @@ use native.Mathlib.Nat.{le_refl}
 use native.Mathlib.Decide.{ℕ_discrete, dec_lt}
 use native.Mathlib.Omega.{arith}
 use lib.Dec.{eqb}
-use borrow.Author.Tests.{eqb-true, eqb-false, eq-eqb, ne_eqb}
+use borrow.Author.Tests.{eqb-true, eqb-false}
 use lib.ListN.{length, set, replicate, length-set, length-replicate, get_or-replicate}
 use lib.Seq.{ext_get_or}
 use Rattle.point_darts.specs.Dart.{mark}
@@ -105,17 +105,6 @@ module _ (u t f l : List ℕ) (i x : ℕ) (off : at u i ≡ mark) (here : i < le
     put_lists : ((y : ℕ) → at (set f x i) y ≢ mark → Of more own y (at (set f x i) y))
         × Lists more own (set t i (at f x)) (set f x i) (ends (eqb (at f x) mark))
     put_lists = (put_firsts, groups_lists more (set t i (at f x)) (set f x i) (ends (eqb (at f x) mark)) own put_group)
-
--- what is put: after the dart the one that was first, and the dart as last where there was none
-pub put_list : (t f t' : List ℕ) (i x v : ℕ) → v ≡ at f x → t' ≡ set t i v → t' ≡ set t i (at f x)
-put_list t f t' i x v e p = rw e at p
-
-module _ (f l : List ℕ) (i x v : ℕ) (e : v ≡ at f x) where
-  pub put_end : (l' : List ℕ) → v ≡ mark → l' ≡ set l x i → l' ≡ cond (eqb (at f x) mark) (set l x i) l
-  put_end l' z p = rw (eq-eqb (at f x) mark (sym e ∙ z)) p
-
-  pub keep_end : v ≢ mark → l ≡ cond (eqb (at f x) mark) (set l x i) l
-  keep_end z = rw (ne_eqb (at f x) mark (λ h. z (e ∙ h)))
 
 pub record Listing (s : List ℕ) (n i : ℕ) (t f l : List ℕ) : Type 0 where
   pub read : List ℕ

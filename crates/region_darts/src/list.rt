@@ -31,9 +31,7 @@ pub fn list_sides(side: &[u16], list: &mut [u16], first: &mut [u16], last: &mut 
 {
     entry::fill(list, dart::MARK);
     entry::fill(first, dart::MARK);
-    let mut i = side.len();
-    while 0 < i {
-        i -= 1;
+    for i in (0..side.len()).rev() {
         let name = side[i];
         if name != dart::MARK {
             put_first(i as u16, name, list, first, last);

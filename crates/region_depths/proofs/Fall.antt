@@ -16,7 +16,6 @@ use Rattle.sheet_size.specs.Size.{within}
 use Rattle.point_darts.specs.Dart.{mark, slots}
 use Rattle.paper.specs.Name.{names}
 use Rattle.paper.specs.Level.{side, border}
-use Rattle.paper.specs.Enclosure.{parent}
 use Rattle.paper.specs.Drawing.{Tables, drawn, drawing, is_drawing}
 use Rattle.paper.specs.Joining.{at, on}
 use Rattle.paper_laws.proofs.Marks.{within_fits}

@@ -27,10 +27,7 @@ pub fn all_depths(parent: &[u16], depths: &mut [u16])
     requires { Falls parent.now × (length parent.now ≤ mark) × (length depths.old ≡ length parent.now) }
     ensures { depths.new ≡ counts depth parent.now }
 {
-    let n = parent.len() as u16;
-    let mut i: u16 = 0;
-    while i < n {
+    for i in 0..parent.len() as u16 {
         depths[i as usize] = deeper(parent, depths, i);
-        i += 1;
     }
 }

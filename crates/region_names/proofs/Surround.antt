@@ -1,6 +1,6 @@
 -- The names with the outside round them.
 --   named w h n x y == the name of the cell in column x - 1 and row y - 1, 0 outside
---   framed w h n    == in rows of w + 1, for each point the name of the cell north_west of it
+--   framed w h n    == in rows of w + 1, for each point the name of the cell north-west of it
 --   named_at w h n k == the name at place k, in rows of w + 1
 --   Framed w h l k t == the first k entries of t are the names at their places, 1 plus those of l; the others are 0
 --   Framing w h l t y i k == the first y rows of cells are framed; those of row y are from i on, its names from k on
@@ -22,7 +22,7 @@ use native.Mathlib.Omega.{arith}
 use lib.Dec.{ltb}
 use borrow.Author.Tests.{lt-ltb, le-ltb}
 use lib.ListN.{length, get_or, replicate, length-replicate, get_or-replicate}
-use Rattle.laws.proofs.Table.{get_or_table, get_d_map}
+use Rattle.laws.proofs.Table.{get_or_table, get_or_map}
 use Rattle.point_darts.specs.Dart.{points}
 use Rattle.point_darts.proofs.Darts.{place, column, row, place_below}
 use Rattle.paper.specs.Name.{named, cells}
@@ -69,7 +69,7 @@ module _ (w h : ℕ) where
   unfolding named
   named_cell l x y q a b =
       let k : y * w + x < length l = rw q (cell_below w h x y a b) in
-      rw (lt-ltb x w a, lt-ltb y h b) (sym (get_d_map suc l (y * w + x) 0 0 k))
+      rw (lt-ltb x w a, lt-ltb y h b) (sym (get_or_map suc l (y * w + x) 0 0 k))
 
 -- The name at place k.
 abbrev pub named_at : ℕ → ℕ → List ℕ → ℕ → ℕ

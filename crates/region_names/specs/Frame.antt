@@ -1,7 +1,7 @@
 -- The names of the cells with the outside round them.
 --   Down m t        == each of the first m entries of t is at most its place
 --   surround w h    == the number of the names with the outside round them
---   framed w h n    == in rows of w + 1, for each point the name of the cell north_west of it, by the table n of names;
+--   framed w h n    == in rows of w + 1, for each point the name of the cell north-west of it, by the table n of names;
 --                      one row and one entry more, so that the four cells round every point are there
 use Rattle.std.specs.Prelude.{List, ℕ, ◌+◌, ◌/◌, ◌%◌, ◌≤◌, ◌<◌, get_or}
 use Rattle.laws.specs.Table.{table}

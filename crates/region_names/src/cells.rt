@@ -1,12 +1,13 @@
-ghost use Rattle.std.specs.Prelude.{◌≡◌, true, cond, ◌&&◌, suc, ◌*◌, ◌-◌, ◌%◌, ◌<◌, ◌≤◌, eqb, ltb, length};
+ghost use Rattle.std.specs.Prelude.{◌≡◌, cond, ◌&&◌, suc, ◌*◌, ◌-◌, ◌%◌, ◌<◌, ◌≤◌, eqb, ltb, length};
 ghost use Rattle.laws.specs.Least.{tie, least};
-ghost use Rattle.sheet_size.specs.Size.{within};
 ghost use Rattle.paper.specs.Name.{label, west, north};
 ghost use Rattle.table_forest.specs.Forest.{Forest, Grown};
 
+use sheet_size::Size;
 use table_forest::nodes;
 
 // Cell j where it has the label of cell i, else cell i.
+#[tactic(auto, unfolding(paper::specs::Name::label))]
 fn alike(sheet: &[u16], i: u16, j: u16) -> u16
     requires { (i < length sheet.now) × (j < length sheet.now) }
     ensures { result ≡ cond (eqb (label sheet.now i) (label sheet.now j)) j i }
@@ -29,6 +30,7 @@ fn west(sheet: &[u16], column: u16, i: u16) -> u16
 }
 
 // The cell north of cell i where both have one label, else cell i.
+#[tactic(auto, unfolding(paper::specs::Name::north))]
 fn north(width: u16, sheet: &[u16], i: u16) -> u16
     requires { i < length sheet.now }
     ensures { result ≡ north width sheet.now i }
@@ -53,19 +55,17 @@ fn grow(width: u16, sheet: &[u16], first: &mut [u16], column: u16, i: u16)
 }
 
 // The first cell of the region of each cell: regions are cells of one label that touch side by side.
-pub fn first_cells(width: u16, height: u16, sheet: &[u16], first: &mut [u16])
-    requires { (within width height ≡ true) × (length sheet.now ≡ width * height) × (length first.old ≡ width * height) }
+pub fn first_cells(size: Size, sheet: &[u16], first: &mut [u16])
+    requires { (length sheet.now ≡ size.width * size.height) × (length first.old ≡ size.width * size.height) }
     ensures { first.new ≡
-        least (width * height) (west width sheet.now) (north width sheet.now) }
+        least (size.width * size.height) (west size.width sheet.now) (north size.width sheet.now) }
 {
-    let n = width * height;
-    let mut i: u16 = 0;
+    let n = size.width * size.height;
     let mut column: u16 = 0;
-    while i < n {
-        grow(width, sheet, first, column, i);
-        i += 1;
+    for i in 0..n {
+        grow(size.width, sheet, first, column, i);
         column += 1;
-        if column == width {
+        if column == size.width {
             column = 0;
         }
     }

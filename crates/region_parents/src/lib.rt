@@ -1,4 +1,4 @@
 // Enclosure: each region's parent.
-#![tactic(auto)]
+#![tactic(auto, unfolding(point_darts::specs::Dart::mark, point_darts::specs::Dart::dart))]
 
 pub mod parent;

@@ -1,6 +1,5 @@
-ghost use Rattle.std.specs.Prelude.{◌≡◌, true, ◌+◌, ◌*◌, ◌≤◌, ◌<◌, max, length};
+ghost use Rattle.std.specs.Prelude.{◌≡◌, ◌+◌, ◌*◌, ◌≤◌, ◌<◌, length};
 ghost use Rattle.laws.specs.Table.{table};
-ghost use Rattle.sheet_size.specs.Size.{within};
 ghost use Rattle.point_darts.specs.Dart.{mark, points, slots, dart};
 ghost use Rattle.paper.specs.Enclosure.{parent};
 ghost use Rattle.paper.specs.Joining.{at, on};
@@ -10,13 +9,7 @@ ghost use Rattle.region_parents.specs.Tops.{Rising};
 
 use point_darts::dart;
 use point_darts::dart::Dart;
-
-// The larger of two numbers.
-fn larger(a: u16, b: u16) -> u16
-    ensures { result ≡ max a b }
-{
-    if a < b { b } else { a }
-}
+use sheet_size::Size;
 
 // The parent of the region of a name, from the corner of the cell that comes first if the name is in use; else the mark.
 // The dart that leads back from the top's dart east leaves the next point west. Its side is read either way and the mark
@@ -30,7 +23,7 @@ fn parent_at(width: u16, side: &[u16], tops: &[u16], corner: u16, name: u16) -> 
     let top = tops[corner as usize];
     let out = side[dart::first_slot(top + 1) + Dart::WEST as usize];
     let other: u16 = if first == name { 0 } else { 1 };
-    larger(out, dart::MARK * other)
+    out.max(dart::MARK * other)
 }
 
 // The parents of the names of a row of cells, which begin with this name, from their corners, which begin with this one.
@@ -42,29 +35,25 @@ fn parents_row(width: u16, side: &[u16], tops: &[u16], parents: &mut [u16], corn
         rowed (λ x. parent_from width side.now tops.now (corner + x) (name + x)) name width
         parents.old }
 {
-    let mut x: u16 = 0;
-    while x < width {
+    for x in 0..width {
         parents[(name + x) as usize] = parent_at(width, side, tops, corner + x, name + x);
-        x += 1;
     }
 }
 
 // Step 5, parents: each region's parent, from the sides of the lines that remain and the tops of their pieces.
-pub fn find_parents(width: u16, height: u16, side: &[u16], tops: &[u16], parents: &mut [u16])
-    requires { (within width height ≡ true) × (length tops.now ≡ points width height) × Rising tops.now ×
-        (length parents.old ≡ width * height + 1) × (length side.now ≡ slots width height) }
+pub fn find_parents(size: Size, side: &[u16], tops: &[u16], parents: &mut [u16])
+    requires { (length tops.now ≡ points size.width size.height) × Rising tops.now ×
+        (length parents.old ≡ size.width * size.height + 1) × (length side.now ≡ slots size.width size.height) }
     ensures { parents.new ≡
-        table (width * height + 1)
-        (parent width (on side.now) (at side.now) tops.now) }
+        table (size.width * size.height + 1)
+        (parent size.width (on side.now) (at side.now) tops.now) }
 {
     parents[0] = dart::MARK;
-    let mut y: u16 = 0;
     let mut corner: u16 = 0;
     let mut name: u16 = 1;
-    while y < height {
-        parents_row(width, side, tops, parents, corner, name);
-        corner += width + 1;
-        name += width;
-        y += 1;
+    for _ in 0..size.height {
+        parents_row(size.width, side, tops, parents, corner, name);
+        corner += size.width + 1;
+        name += size.width;
     }
 }

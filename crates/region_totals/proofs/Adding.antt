@@ -4,13 +4,13 @@
 use mathlib.Core.Path.{◌≡◌, ◌∙◌}
 use mathlib.Core.Bool.{cond}
 use mathlib.Core.List.{List}
-use Prim.Native.Nat.{ℕ, ◌+◌, ◌≤◌, ◌<◌}
+use Prim.Native.Nat.{ℕ, ◌+◌, ◌<◌}
 use native.Mathlib.Nat.{le_refl}
 use lib.Dec.{eqb}
 use lib.ListN.{length, get_or, set}
 use Rattle.point_darts.specs.Dart.{mark}
 use Rattle.table_entries.proofs.Half.{Half, half_none, half_more}
-use Rattle.region_totals.specs.Tally.{cell_total, line_total, Small}
+use Rattle.region_totals.specs.Tally.{cell_total, line_total}
 
 pub record AddedUp (c b o : List ℕ) (r : ℕ) (c₁ b₁ : List ℕ) : Type 0 where
   pub cells : Half (cell_total c o) r c c₁
@@ -26,10 +26,6 @@ module _ (c b o : List ℕ) (r : ℕ) (c₁ b₁ : List ℕ) (a : AddedUp c b o 
 
   borders_here : get_or b₁ r 0 ≡ get_or b r 0
   borders_here = a.borders.rest r (le_refl r)
-
-  pub added_fits : (n : ℕ) → n ≡ length c → Small c b o → r < length c
-      → (get_or c₁ r 0 + get_or o r 0 ≤ mark) × (get_or b₁ r 0 + get_or o (n + r) 0 ≤ mark)
-  added_fits n k s l = rw (cells_here, borders_here, k) (s r l)
 
   pub added_more : (n : ℕ) → n ≡ length c → length b ≡ length c → r < length c → (v u : ℕ)
       → v ≡ cond (eqb (get_or c₁ r 0 + get_or o r 0) 0) mark (get_or c₁ r 0 + get_or o r 0)

@@ -1,5 +1,5 @@
 -- The tally of cells and border lines, from the names f with the outside round them, in rows of w + 1. A sheet of m names and n points.
---   name_at w f p    == the name of the cell south_east of point p
+--   name_at w f p    == the name of the cell south-east of point p
 --   lines_at w f p   == twice how many of that cell's left line and top line are border lines
 --   weighed v k r i == k p added up over the numbers p below i that have v p = r
 --   borne_in c o r   == the cells of the name r, in the tables c and o

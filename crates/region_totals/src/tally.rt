@@ -1,4 +1,4 @@
-// The tally of the cells and border lines of each name. Every point stands for the cell south_east of it. A region has as many
+// The tally of the cells and border lines of each name. Every point stands for the cell south-east of it. A region has as many
 // lines at the left of its cells as at their right, and as many at their top as at their bottom, so that those at the left and at
 // the top are counted twice.
 //
@@ -34,10 +34,8 @@ fn rule(width: u16, points: usize, names: usize, round: &[u16], odd: &mut [u16])
 {
     let wide = width as usize;
     let lines = 2 * names;
-    let mut p: usize = 0;
-    while p < points {
+    for p in 0..points {
         odd[lines + p] = lines_of(round[p + (wide + 2)], round[p + (wide + 1)], round[p + 1]);
-        p += 1;
     }
 }
 
@@ -97,14 +95,13 @@ fn tally_points(
         Tallied width names points round.now 0 cells.old borders.old odd.old }
     ensures { Tallied width names points round.now points cells.new borders.new odd.new }
 {
-    let mut p: usize = 0;
-    while p + 1 < points {
+    for pair in 0..points / 2 {
+        let p = 2 * pair;
         tally_even(width, points, names, round, cells, borders, odd, p);
         tally_odd(width, points, names, round, odd, p + 1);
-        p += 2;
     }
-    if p < points {
-        tally_even(width, points, names, round, cells, borders, odd, p);
+    if points % 2 == 1 {
+        tally_even(width, points, names, round, cells, borders, odd, points - 1);
     }
 }
 

@@ -1,7 +1,6 @@
 // The totals of each name.
-ghost use Rattle.std.specs.Prelude.{◌≡◌, true, cond, ◌+◌, ◌*◌, ◌≤◌, ◌<◌, eqb, length};
+ghost use Rattle.std.specs.Prelude.{◌≡◌, ◌+◌, ◌*◌, ◌≤◌, ◌<◌, length};
 ghost use Rattle.laws.specs.Table.{table};
-ghost use Rattle.sheet_size.specs.Size.{within};
 ghost use Rattle.point_darts.specs.Dart.{mark, points, slots};
 ghost use Rattle.region_names.specs.Frame.{surround};
 ghost use Rattle.region_totals.specs.Tally.{Named, Small, cell_total, line_total};
@@ -9,13 +8,8 @@ ghost use Rattle.region_totals.specs.Total.{Totalled};
 
 use crate::tally;
 use point_darts::dart;
-
-// A value, the mark where there is no cell.
-fn where_some(cells: u16, value: u16) -> u16
-    ensures { result ≡ cond (eqb cells 0) mark value }
-{
-    if cells == 0 { dart::MARK } else { value }
-}
+use sheet_size::Size;
+use table_entries::entry;
 
 // What three tables have tallied is added up, in the first two: the cells and the border lines of each name, the mark in both for a
 // name without cells.
@@ -28,34 +22,25 @@ fn add_up(cells: &mut [u16], borders: &mut [u16], odd: &[u16])
         (line_total (length cells.old) cells.old borders.old odd.now)) }
 {
     let n = cells.len();
-    let mut r: usize = 0;
-    while r < n {
+    for r in 0..n {
         let sum = cells[r] + odd[r];
         let lines = borders[r] + odd[n + r];
-        cells[r] = where_some(sum, sum);
-        borders[r] = where_some(sum, lines);
-        r += 1;
+        cells[r] = entry::mark_where(sum, 0, sum);
+        borders[r] = entry::mark_where(sum, 0, lines);
     }
 }
 
 // The totals of a sheet, from the names with the outside round them: how many cells and how many border lines each name has. The
 // outside has no cell. Odd is work.
-pub fn totals(
-    width: u16,
-    height: u16,
-    round: &[u16],
-    cells: &mut [u16],
-    borders: &mut [u16],
-    odd: &mut [u16],
-)
-    requires { (within width height ≡ true) × (length round.now ≡ surround width height) ×
-        Named (width * height + 1) round.now × (length cells.old ≡ width * height + 1) ×
-        (length borders.old ≡ width * height + 1) × (length odd.old ≡ slots width height) }
-    ensures { Totalled width height round.now cells.new borders.new }
+pub fn totals(size: Size, round: &[u16], cells: &mut [u16], borders: &mut [u16], odd: &mut [u16])
+    requires { (length round.now ≡ surround size.width size.height) ×
+        Named (size.width * size.height + 1) round.now × (length cells.old ≡ size.width * size.height + 1) ×
+        (length borders.old ≡ size.width * size.height + 1) × (length odd.old ≡ slots size.width size.height) }
+    ensures { Totalled size.width size.height round.now cells.new borders.new }
 {
-    let points = dart::points(width, height) as usize;
+    let points = dart::points(size) as usize;
     let names = cells.len();
-    tally::tally(width, points, names, round, cells, borders, odd);
+    tally::tally(size.width, points, names, round, cells, borders, odd);
     add_up(cells, borders, odd);
     cells[0] = 0;
 }

@@ -10,9 +10,8 @@ use native.Mathlib.Decide.{ℕ_discrete, dec_lt}
 use native.Mathlib.Omega.{arith}
 use lib.Dec.{eqb}
 use borrow.Author.Tests.{eq-eqb, ne_eqb}
-use lib.ListN.{length, get_or, set, replicate, get_or-eq_default}
+use lib.ListN.{length, get_or, set, get_or-eq_default}
 use lib.Seq.{get_or-set_same, get_or-set_other}
-use Rattle.laws.specs.Table.{listed, table}
 use Rattle.laws.proofs.Test.{clash}
 use Rattle.point_darts.specs.Dart.{mark}
 use Rattle.paper.specs.Joining.{at, on}
@@ -74,16 +73,6 @@ module _ (t : List ℕ) (d : ℕ) where
         go : Dec (d < length t) → d < length t
         go (yes b) = b
         go (no b) = absurd (on_no_mark (at_end t d (omega arith)))
-
--- A table of one value alone.
-values_listed : (v k n : ℕ) → listed {A = ℕ} (λ i. v) k n ≡ replicate n v
-unfolding listed
-values_listed v k zero = refl
-values_listed v k (suc n) = ap {B = List ℕ} (λ t. v ∷ t) (values_listed v (suc k) n)
-
-pub values_table : (v n : ℕ) → table {A = ℕ} n (λ i. v) ≡ replicate n v
-unfolding table
-values_table v n = values_listed v 0 n
 
 -- An entry that gives way to the mark where a table of links has the mark.
 cond_not : (b : Bool) (x y : ℕ) → cond b x y ≡ cond (not b) y x

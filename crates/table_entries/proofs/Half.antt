@@ -4,10 +4,10 @@ use mathlib.Core.Path.{◌≡◌, refl, sym, ap, ◌∙◌}
 use mathlib.Core.List.{List}
 use Prim.Native.Nat.{ℕ, ◌+◌, ◌≤◌, ◌<◌}
 use native.Mathlib.Nat.{le_refl}
-use lib.ListN.{length, get_or, set, replicate}
+use lib.ListN.{length, get_or, set}
 use Rattle.laws.specs.Table.{table}
 use Rattle.paper.specs.Joining.{at}
-use Rattle.table_entries.proofs.Entries.{at_entry, values_table}
+use Rattle.table_entries.proofs.Entries.{at_entry}
 use Rattle.table_entries.proofs.Filled.{Filled, filled_none, filled_more, filled_all}
 
 abbrev pub Half : (ℕ → ℕ) → ℕ → List ℕ → List ℕ → Type 0
@@ -28,7 +28,3 @@ module _ (f : ℕ → ℕ) where
 -- an entry that is not yet treated
 pub half_here : (f : ℕ → ℕ) (i : ℕ) (s t : List ℕ) → Half f i s t → i < length s → at s i ≡ get_or t i 0
 half_here f i s t p h = at_entry s i h ∙ sym (p.rest i (le_refl i))
-
--- all entries, one value
-pub half_same : (v i : ℕ) (s t : List ℕ) → Half (λ _. v) i s t → length s ≤ i → t ≡ replicate (length s) v
-half_same v i s t p h = half_all (λ _. v) (length s) i s t p refl h ∙ values_table v (length s)

@@ -3,11 +3,10 @@
 use mathlib.Core.Path.{◌≡◌}
 use mathlib.Core.Bool.{not}
 use mathlib.Core.List.{List}
-use Prim.Native.Nat.{ℕ, ◌+◌, ◌*◌, ◌≤◌, ◌<◌, zero-le}
-use native.Mathlib.Nat.{one-mul, mul-zero, mul-one, le_refl}
+use Prim.Native.Nat.{ℕ, ◌+◌, ◌*◌, ◌<◌}
+use native.Mathlib.Nat.{one-mul}
 use lib.Dec.{eqb}
 use lib.ListN.{length, get_or}
-use borrow.Author.Tests.{eq-eqb, ne_eqb}
 use Rattle.laws.specs.Table.{number}
 use Rattle.point_darts.specs.Dart.{mark, dart}
 use Rattle.point_darts.specs.Point.{bits}
@@ -15,13 +14,6 @@ use Rattle.point_darts.proofs.Points.{bits_below}
 use Rattle.paper.specs.Level.{mask}
 use Rattle.paper.specs.Joining.{at, on}
 use Rattle.table_entries.proofs.Entries.{at_in}
-
--- a weight where what was found is not the mark, else 0
-pub where_off : (r v : ℕ) → r ≡ mark → (0 ≡ v * number (not (eqb r mark))) × (0 ≤ v)
-where_off r v e = (rw (eq-eqb r mark e, mul-zero), zero-le)
-
-pub where_on : (r v : ℕ) → (r ≡ mark → ⊥) → (v ≡ v * number (not (eqb r mark))) × (v ≤ v)
-where_on r v n = (rw (ne_eqb r mark n, mul-one), le_refl v)
 
 -- The mask of a point, line by line.
 pub mask_sum : (e s w n a b c d : ℕ) → a ≡ 1 * number (not (eqb e mark)) → b ≡ 2 * number (not (eqb s mark))

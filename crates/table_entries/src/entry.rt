@@ -54,11 +54,7 @@ pub fn put_four(table: &mut [u16], point: u16, east: u16, south: u16, west: u16,
 pub fn fill(table: &mut [u16], each: u16)
     ensures { table.new ≡ replicate (length table.old) each }
 {
-    let mut i = 0;
-    while i < table.len() {
-        table[i] = each;
-        i += 1;
-    }
+    table.fill(each);
 }
 
 // Sets every entry of a table to 0.
@@ -88,10 +84,8 @@ pub fn same(left: &[u16], right: &[u16]) -> bool
         return false;
     }
     let mut agree = true;
-    let mut i = 0;
-    while i < n {
+    for i in 0..n {
         agree = agree & (left[i] == right[i]);
-        i += 1;
     }
     agree
 }
@@ -106,15 +100,11 @@ pub fn both_same(s: &[u16], t: &[u16], u: &[u16], v: &[u16]) -> bool
     false
 }
 
-// An entry where a link is not the mark, else the mark.
-fn where_linked(link: u16, entry: u16) -> u16
-    ensures { result ≡ cond (eqb link mark) mark entry }
+// A value; the mark where what was found is the number that stands for none.
+pub fn mark_where(found: u16, none: u16, value: u16) -> u16
+    ensures { result ≡ cond (eqb found none) mark value }
 {
-    if link == dart::MARK {
-        dart::MARK
-    } else {
-        entry
-    }
+    if found == none { dart::MARK } else { value }
 }
 
 // The entries of a table for the darts that have links; the mark for the others.
@@ -122,10 +112,7 @@ pub fn trim(links: &[u16], table: &mut [u16])
     requires { length links.now ≡ length table.old }
     ensures { table.new ≡ trimmed links.now table.old }
 {
-    let n = table.len();
-    let mut i = 0;
-    while i < n {
-        table[i] = where_linked(links[i], table[i]);
-        i += 1;
+    for i in 0..table.len() {
+        table[i] = mark_where(links[i], dart::MARK, table[i]);
     }
 }

@@ -72,11 +72,8 @@ pub fn flatten(nodes: &mut [u16])
     requires { Grown (length nodes.old) nodes.old }
     ensures { (g : Grown (length nodes.old) nodes.old) → nodes.new ≡ g.labels }
 {
-    let n = nodes.len();
-    let mut i = 0;
-    while i < n {
+    for i in 0..nodes.len() {
         let up = nodes[i];
         nodes[i] = nodes[up as usize];
-        i += 1;
     }
 }

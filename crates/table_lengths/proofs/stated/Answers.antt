@@ -6,10 +6,10 @@ use Rattle.table_lengths.proofs.Tested.{names_differ, names_same}
 use Rattle.table_lengths.proofs.stated.Goals as goal
 
 pub overflow_mul-names : goal.overflow_mul-names
-overflow_mul-names c = omega (arith, cells_fit _ _ c.requires)
+overflow_mul-names c = omega (arith, cells_fit _ _ c.args.size.limited)
 
 pub overflow_add-names : goal.overflow_add-names
-overflow_add-names c = omega (arith, cells_fit _ _ c.requires)
+overflow_add-names c = omega (arith, cells_fit _ _ c.args.size.limited)
 
 pub returns-then-not-all_are : goal.returns-then-not-all_are
 returns-then-not-all_are c = names_differ _ _ _ _ _ c.all_are.ensures (ap not c.if-not-all_are.true)

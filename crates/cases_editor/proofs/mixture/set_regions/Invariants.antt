@@ -1,8 +1,5 @@
-use Rattle.std.specs.Prelude.{◌≡◌, ◌-◌, ◌≤◌, length}
+use Rattle.std.specs.Prelude.{◌≡◌, length}
 use Rattle.cases_editor.proofs.mixture.set_regions.Given as goal
 
 abbrev pub invariant-loop-name : goal.invariant-loop-name
-invariant-loop-name l = (length l.regions ≡ length l.initial.regions) × (1 ≤ l.name)
-
-abbrev pub decreases-loop-name : goal.decreases-loop-name
-decreases-loop-name l = l.count - l.name
+invariant-loop-name l = length l.regions ≡ length l.initial.regions

@@ -10,40 +10,38 @@ use Rattle.check_call.proofs.agree.curves_agree.Goals as goal
 pub draw_curves-requires : goal.draw_curves-requires
 draw_curves-requires c =
     let q = c.requires in (
-      q.0,
-      c.keep_points.auto.kept ∙ q.4,
+      c.keep_points.auto.kept ∙ q.3,
+      q.4,
+      q.2,
       q.5,
-      q.3,
-      q.6,
-      runs_agreed _ _ _ _ q.7 _ _ _ q.0 q.8 c.keep_points.ensures,
+      runs_agreed _ _ _ _ q.6 _ _ _ c.args.size.limited q.7 c.keep_points.ensures,
     )
 
 pub overflow_mul-names : goal.overflow_mul-names
 overflow_mul-names c =
-    omega (arith, cells_fit _ _ c.requires.0)
+    omega (arith, cells_fit _ _ c.args.size.limited)
 
 pub overflow_add-names : goal.overflow_add-names
 overflow_add-names c =
-    omega (arith, cells_fit _ _ c.requires.0)
+    omega (arith, cells_fit _ _ c.args.size.limited)
 
 pub slice_bounds-draw_parents-end : goal.slice_bounds-draw_parents-end
 slice_bounds-draw_parents-end c =
-    front_in _ _ c.keep_points.new.kept (c.keep_points.auto.kept ∙ c.requires.4) (names_part _
+    front_in _ _ c.keep_points.new.kept (c.keep_points.auto.kept ∙ c.requires.3) (names_part _
     _)
 
 pub slice_bounds-draw_parents-end-2 : goal.slice_bounds-draw_parents-end-2
 slice_bounds-draw_parents-end-2 c =
-    sym (front_long _ _ c.keep_points.new.kept (c.keep_points.auto.kept ∙ c.requires.4)
+    sym (front_long _ _ c.keep_points.new.kept (c.keep_points.auto.kept ∙ c.requires.3)
     (names_part _ _))
 
 pub draw_parents-requires : goal.draw_parents-requires
 draw_parents-requires c = (
-  c.requires.0,
-  c.keep_points.auto.top ∙ c.requires.2,
+  c.keep_points.auto.top ∙ c.requires.1,
   tops_rising _ _ _ _ _ _ c.keep_points.ensures,
-  front_long _ _ c.keep_points.new.kept (c.keep_points.auto.kept ∙ c.requires.4)
+  front_long _ _ c.keep_points.new.kept (c.keep_points.auto.kept ∙ c.requires.3)
       (names_part _ _),
-  c.requires.1,
+  c.requires.0,
 )
 
 pub returns-then-not-both_same : goal.returns-then-not-both_same
@@ -53,17 +51,17 @@ returns-then-not-both_same c =
 
 pub slice_bounds-same-end : goal.slice_bounds-same-end
 slice_bounds-same-end c =
-    back_in _ _ c.keep_points.new.kept (c.keep_points.auto.kept ∙ c.requires.4) (names_part _ _)
+    back_in _ _ c.keep_points.new.kept (c.keep_points.auto.kept ∙ c.requires.3) (names_part _ _)
     c.draw_parents.new.parents c.draw_parents.auto.parents
 
 pub slice_bounds-same-end-2 : goal.slice_bounds-same-end-2
 slice_bounds-same-end-2 c =
-    sym (back_long _ _ c.keep_points.new.kept (c.keep_points.auto.kept ∙ c.requires.4)
+    sym (back_long _ _ c.keep_points.new.kept (c.keep_points.auto.kept ∙ c.requires.3)
     (names_part _ _) c.draw_parents.new.parents c.draw_parents.auto.parents)
 
 pub returns : goal.returns
 returns c =
     curves_yes _ _ _ _ _ _ _ _ _ _ _ _ c.keep_points.ensures c.draw_curves.ensures _ c.both_same.ensures
     (ap not c.if-not-both_same.false) _ _ _ (front_back _ _ c.keep_points.new.kept
-    (c.keep_points.auto.kept ∙ c.requires.4) (names_part _ _) c.draw_parents.new.parents
+    (c.keep_points.auto.kept ∙ c.requires.3) (names_part _ _) c.draw_parents.new.parents
     c.draw_parents.auto.parents) c.draw_parents.ensures c.same.ensures

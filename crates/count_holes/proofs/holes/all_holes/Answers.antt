@@ -15,7 +15,7 @@ use Rattle.count_holes.proofs.holes.all_holes.Goals as goal
 -- The work table has room for the tops.
 room : (c : After-points-n) → c.points-n.result ≤ length c.args.work.now
 unfolding slots
-room c = omega (arith, c.points-n.ensures, c.requires.2)
+room c = omega (arith, c.points-n.ensures, c.requires.1)
 
 pub slice_bounds-find_all-end : goal.slice_bounds-find_all-end
 slice_bounds-find_all-end c = room (at.slice_bounds-find_all-end c).After-points-n
@@ -26,12 +26,12 @@ slice_bounds-find_all-end-2 c = sym (length-take-le _ _ (room (at.slice_bounds-f
 pub find_all-requires : goal.find_all-requires
 find_all-requires c =
     let q = c.requires in
-    (q.0, q.1, omega (arith, q.5, q.4), length-take-le _ _ (room (at.find_all-requires c).After-points-n) ∙ c.points-n.ensures)
+    (q.0, omega (arith, q.4, q.3), length-take-le _ _ (room (at.find_all-requires c).After-points-n) ∙ c.points-n.ensures)
 
 pub returns : goal.returns
 returns c =
     let a = c.args in
     let q = c.requires in
     let long = length_front a.work.now c.find_all.new.top c.points-n.result c.find_all.auto.top in
-    let rounds = pieces a.side.now (tops a.width a.height (on a.side.now)) in
-    (trimmed_counts rounds _ _ (rw q.5 at c.find_all.ensures.0) q.3 _ c.trim.ensures, rw long at c.clear.ensures)
+    let rounds = pieces a.side.now (tops a.size.width a.size.height (on a.side.now)) in
+    (trimmed_counts rounds _ _ (rw q.4 at c.find_all.ensures.0) q.2 _ c.trim.ensures, rw long at c.clear.ensures)

@@ -1,9 +1,5 @@
-use Prim.Native.Nat.{◌-◌, ◌≤◌}
 use Rattle.count_holes.proofs.Rounding.{Tallied}
 use Rattle.count_holes.proofs.round.all_pieces.Given as goal
 
 abbrev pub invariant-loop-p : goal.invariant-loop-p
-invariant-loop-p l = Tallied l.side l.tops l.p l.n l.tally × (l.p ≤ l.last)
-
-abbrev pub decreases-loop-p : goal.decreases-loop-p
-decreases-loop-p l = l.last - l.p
+invariant-loop-p l = Tallied l.side l.tops l.p l.n l.tally

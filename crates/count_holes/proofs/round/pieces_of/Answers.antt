@@ -1,4 +1,3 @@
-use Prim.Native.Nat.{◌-◌}
 use native.Mathlib.Omega.{arith}
 use Rattle.point_darts.specs.Dart.{mark, dart}
 use Rattle.count_holes.proofs.Rounding.{rounded_none, rounded_more, rounded_same, rounded_le, rounded_all}
@@ -10,7 +9,7 @@ unfolding mark
 overflow_cast-last c = let z = c.requires.0 in omega (arith, z.four, z.fits)
 
 pub loop-p-init : goal.loop-p-init
-loop-p-init c = (rounded_none _ _ _, omega arith)
+loop-p-init c = rounded_none _ _ _
 
 pub round_at-round-requires : goal.round_at-round-requires
 unfolding dart
@@ -29,21 +28,15 @@ overflow_add-count c =
       | else-round-name w ↦ omega (arith, b, z.four, z.fits)
     ]
 
-pub overflow_add-p : goal.overflow_add-p
-unfolding mark
-overflow_add-p c = let z = c.requires.0 in omega (arith, z.four, z.fits)
-
 pub loop-p-preserved : goal.loop-p-preserved
 loop-p-preserved c =
-    let n = c.loop-p.invariant.0 in (
-      elim c.if-round-name.branch [
-        | then-round-name w ↦ omega (arith, rounded_more _ _ _ _ _ _ n c.round_at-round.ensures w.if-round-name.true)
-        | else-round-name w ↦ omega (arith, rounded_same _ _ _ _ _ _ n c.round_at-round.ensures w.if-round-name.false)
-      ],
-      omega arith,
-    )
+    let n = c.loop-p.invariant in
+    elim c.if-round-name.branch [
+      | then-round-name w ↦ omega (arith, rounded_more _ _ _ _ _ _ n c.round_at-round.ensures w.if-round-name.true)
+      | else-round-name w ↦ omega (arith, rounded_same _ _ _ _ _ _ n c.round_at-round.ensures w.if-round-name.false)
+    ]
 
 pub returns : goal.returns
 returns c =
     let q = c.requires in
-    rounded_all _ _ q.0 _ _ _ q.1 c.loop-p.invariant.0 (omega arith)
+    rounded_all _ _ q.0 _ _ _ q.1 c.loop-p.invariant (omega arith)

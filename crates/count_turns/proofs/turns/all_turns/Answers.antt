@@ -1,4 +1,3 @@
-use Prim.Native.Nat.{◌-◌}
 use Rattle.table_entries.proofs.Filled.{filled_all}
 use Rattle.count_turns.specs.Turns.{turn_table}
 use Rattle.count_turns.proofs.Taking.{whole_slots}
@@ -8,7 +7,7 @@ pub turns_at-turns-requires : goal.turns_at-turns-requires
 turns_at-turns-requires c =
     let (r, l) = c.loop-d.invariant in
     record {
-      lines = whole_slots _ _ c.args.next1.now c.requires.0 c.requires.1;
+      lines = whole_slots _ _ c.args.next1.now c.args.size.limited c.requires.0;
       below = c.loop-d-test.true;
       rights = r.long;
       lefts = l.long;

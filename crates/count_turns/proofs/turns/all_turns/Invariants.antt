@@ -1,4 +1,3 @@
-use Prim.Native.Nat.{◌-◌}
 use Rattle.point_rules.specs.Turn.{is_right, is_left}
 use Rattle.table_entries.proofs.Filled.{Filled}
 use Rattle.count_turns.specs.Turns.{turns_at}
@@ -8,6 +7,3 @@ abbrev pub invariant-loop-d : goal.invariant-loop-d
 invariant-loop-d l =
     Filled l.n (turns_at l.n l.next1 l.next3 l.other3 is_right is_left) l.d l.initial.right l.right
     × Filled l.n (turns_at l.n l.next1 l.next3 l.other3 is_left is_right) l.d l.initial.left l.left
-
-abbrev pub decreases-loop-d : goal.decreases-loop-d
-decreases-loop-d l = l.n - l.d

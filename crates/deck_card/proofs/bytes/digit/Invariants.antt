@@ -1,9 +1,7 @@
 use mathlib.Core.Path.{◌≡◌}
+use Prim.Native.Nat.{◌-◌}
 use Rattle.deck_card.specs.Card.{digit}
 use Rattle.deck_card.proofs.bytes.digit.Given as goal
 
-abbrev pub invariant-loop-left : goal.invariant-loop-left
-invariant-loop-left l = digit l.rest l.left ≡ digit l.number l.after
-
-abbrev pub decreases-loop-left : goal.decreases-loop-left
-decreases-loop-left l = l.left
+abbrev pub invariant-loop : goal.invariant-loop
+invariant-loop l = digit l.rest (l.after - l.counter) ≡ digit l.number l.after

@@ -1,7 +1,6 @@
 use mathlib.Core.Bool.{cond}
 use mathlib.Core.Path.{◌≡◌, sym, ◌∙◌}
 use native.Mathlib.Omega.{arith}
-use borrow.Author.Tests.{eq-eqb, ne_eqb}
 use Rattle.deck_card.specs.Card.{columns, places, long}
 use Rattle.deck_card.proofs.Parts.{whole_is}
 use Rattle.deck_faults.specs.Fault.{form}
@@ -17,22 +16,24 @@ decided : (c : After-agrees)
 unfolding columns places form
 decided c =
     simp (
-      ne_eqb _ _ c.if-card-eq0.false,
+      ← c.is_empty.ensures,
+      c.if-is_empty.false,
       ← c.whole.ensures,
       c.if-not-whole.false,
       bears_is,
       ← c.agrees.ensures,
     )
 
-pub returns-then-card-eq0 : goal.returns-then-card-eq0
+pub returns-then-is_empty : goal.returns-then-is_empty
 unfolding form
-returns-then-card-eq0 c = simp (eq-eqb _ _ c.if-card-eq0.true)
+returns-then-is_empty c = rw (← c.is_empty.ensures, c.if-is_empty.true)
 
 pub returns-then-not-whole : goal.returns-then-not-whole
 unfolding form
 returns-then-not-whole c =
     simp (
-      ne_eqb _ _ c.if-card-eq0.false,
+      ← c.is_empty.ensures,
+      c.if-is_empty.false,
       ← c.whole.ensures,
       c.if-not-whole.true,
     )
@@ -43,8 +44,8 @@ returns-then-not-agrees c = rw (decided (at.returns-then-not-agrees c).After-agr
 pub returns : goal.returns
 returns c = rw (decided (at.returns c).After-agrees, c.if-not-agrees.false)
 
-pub agrees-requires-clause-from_le_to : goal.agrees-requires-clause-from_le_to
+pub agrees-requires-clause-columns_there : goal.agrees-requires-clause-columns_there
 unfolding columns places long
-agrees-requires-clause-from_le_to c =
+agrees-requires-clause-columns_there c =
     let n = (whole_is c.args.card.now (sym c.whole.ensures ∙ c.if-not-whole.false)).length_is in
     omega arith

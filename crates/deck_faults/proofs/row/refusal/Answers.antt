@@ -2,6 +2,7 @@ use mathlib.Core.Bool.{cond}
 use mathlib.Core.Path.{◌≡◌, sym, ◌∙◌}
 use native.Mathlib.Omega.{arith}
 use lib.Seq.{slice}
+use Rattle.std.proofs.lemmas.Result.{err_from_is_err_and}
 use Rattle.laws.specs.Every.{every}
 use Rattle.deck_card.specs.Card.{columns, places, long, blank, lowest, highest, visible, from_to}
 use Rattle.deck_card.proofs.Parts.{measured_is, part_held, whole_is}
@@ -20,7 +21,7 @@ cells-decide : (c : After-all_between)
 unfolding lowest highest visible
 cells-decide c =
     let s = c.args in
-    let e = sym c.refusal-form.ensures ∙ c.if-form-ne0.false in
+    let e = sym c.in_ok-refusal.ensures in
     let w = (form_none s.number s.card.now e).whole_is in
     let p = c.part.ensures.0 ∙ part_held s.cells s.card.now c.requires w in
     simp (row_is s.cells s.number s.card.now e, ← p, ← c.all_between.ensures)
@@ -38,8 +39,10 @@ blanks-decide c =
       ← c.all_between-2.ensures,
     )
 
-pub returns-then-form-ne0 : goal.returns-then-form-ne0
-returns-then-form-ne0 c = rw c.refusal-form.ensures (row_formed _ _ _ (rw (← c.refusal-form.ensures) c.if-form-ne0.true))
+pub returns-in_err-refusal : goal.returns-in_err-refusal
+returns-in_err-refusal c =
+    let p = err_from_is_err_and c.from_residual.result c.from_residual.ensures.1 in
+    rw (p.1, p.2) (row_formed _ _ _ _ c.in_err-refusal.ensures)
 
 pub returns-then-not-all_between : goal.returns-then-not-all_between
 returns-then-not-all_between c = rw (cells-decide (at.returns-then-not-all_between c).After-all_between, c.if-not-all_between.true)
@@ -58,7 +61,7 @@ pub slice_bounds-all_between-end : goal.slice_bounds-all_between-end
 unfolding columns places long
 slice_bounds-all_between-end c =
     let s = c.args in
-    let f = form_none s.number s.card.now (sym c.refusal-form.ensures ∙ c.if-form-ne0.false) in
+    let f = form_none s.number s.card.now (sym c.in_ok-refusal.ensures) in
     let n = (whole_is s.card.now f.whole_is).length_is in
     omega arith
 

@@ -8,8 +8,5 @@ use Rattle.deck_reading.proofs.fill.copy.Goals as goal
 pub loop-i-preserved : goal.loop-i-preserved
 loop-i-preserved c =
     let l = c.loop-i in
-    let h : c.args.from + l.i < length c.args.cells.now = omega arith in (
-      omega arith,
-      rw (add-one, l.invariant.1)
-          (paste-suc c.args.cells.now c.args.from c.args.row.now l.i 0 h c.loop-i-test.true),
-    )
+    let h : c.args.from + l.i < length c.args.cells.now = omega arith in
+    rw (add-one, l.invariant) (paste-suc c.args.cells.now c.args.from c.args.row.now l.i 0 h c.loop-i-test.true)

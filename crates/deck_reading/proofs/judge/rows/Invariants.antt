@@ -1,13 +1,11 @@
 use mathlib.Core.Path.{◌≡◌}
-use Prim.Native.Nat.{◌+◌}
+use Prim.Native.Nat.{◌-◌}
 use Rattle.deck_layout.specs.Layout.{row_cards}
 use Rattle.deck_reading.specs.Judging.{rows}
 use Rattle.deck_reading.proofs.judge.rows.Given as goal
 
-abbrev pub invariant-loop-left : goal.invariant-loop-left
-invariant-loop-left l =
-    (l.number + l.left ≡ row_cards l.width l.height + 2)
-    × (rows l.width l.height l.left l.number l.rest ≡ rows l.width l.height (row_cards l.width l.height) 2 l.deck)
-
-abbrev pub decreases-loop-left : goal.decreases-loop-left
-decreases-loop-left l = l.left
+abbrev pub invariant-loop-card : goal.invariant-loop-card
+invariant-loop-card l =
+    let w = l.size.width in
+    let h = l.size.height in
+    rows w h (l.end - l.card-counter) l.card-counter l.rest ≡ rows w h (row_cards w h) 2 l.deck

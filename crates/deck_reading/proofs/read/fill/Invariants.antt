@@ -1,3 +1,4 @@
+use Prim.Native.Nat.{◌+◌, ◌-◌}
 use lib.ListN.{drop}
 use Rattle.deck_card.specs.Card.{long}
 use Rattle.deck_layout.specs.Layout.{row_cards}
@@ -5,10 +6,8 @@ use Rattle.deck_reading.specs.Reading.{cells}
 use Rattle.deck_reading.proofs.Filling.{Filling}
 use Rattle.deck_reading.proofs.read.fill.Given as goal
 
-abbrev pub invariant-loop-left : goal.invariant-loop-left
-invariant-loop-left l =
-    Filling l.width l.height (cells l.width (row_cards l.width l.height) 2 (drop long l.deck))
-    l.table l.rest l.left l.number l.from
-
-abbrev pub decreases-loop-left : goal.decreases-loop-left
-decreases-loop-left l = l.left
+abbrev pub invariant-loop-number : goal.invariant-loop-number
+invariant-loop-number l =
+    let w = l.size.width in
+    let h = l.size.height in
+    Filling w h (cells w (row_cards w h) 2 (drop long l.deck)) l.table l.rest (row_cards w h + 2 - l.number) l.number l.from

@@ -1,29 +1,27 @@
-use mathlib.Core.Path.{sym, ◌∙◌}
+use mathlib.Core.Path.{sym}
+use Rattle.std.proofs.lemmas.Result.{err_from_is_err_and}
+use Rattle.deck_card.specs.Outcome.{read_outcome}
 use Rattle.deck_reading.specs.Reading.{room}
 use Rattle.deck_reading.proofs.Outcomes.{reading_table, reading_refused, reading_sheet}
 use Rattle.deck_reading.proofs.read.read.Goals as goal
 
 pub returns-then-cells-ne-CELLS : goal.returns-then-cells-ne-CELLS
-unfolding room
-returns-then-cells-ne-CELLS c =
-    reading_table c.args.deck.now c.args.cells.now c.if-cells-ne-CELLS.true
+unfolding read_outcome room
+returns-then-cells-ne-CELLS c = reading_table c.args.deck.now c.args.cells.now c.if-cells-ne-CELLS.true
 
-pub returns-in_default : goal.returns-in_default
-unfolding room
-returns-in_default c =
-    let s = c.args in
-    let e = c.judged-answer.ensures in
-    rw e (reading_refused s.deck.now s.cells.now _ _ c.if-cells-ne-CELLS.false (sym e ∙ c.in_default.is))
+pub returns-in_err-size : goal.returns-in_err-size
+unfolding read_outcome room
+returns-in_err-size c =
+    let p = err_from_is_err_and c.from_residual.result c.from_residual.ensures.1 in
+    let e = c.in_err-size.ensures in
+    rw (p.1, p.2, e) (reading_refused c.args.deck.now c.args.cells.now _ _ c.if-cells-ne-CELLS.false (sym e))
 
-pub fill-requires : goal.fill-requires
+pub fill-requires-clause-has_room : goal.fill-requires-clause-has_room
 unfolding room
-fill-requires c =
-    record { deck_value = sym c.judged-answer.ensures ∙ c.in-Sheet.is; table_len = c.if-cells-ne-CELLS.false }
+fill-requires-clause-has_room c = c.if-cells-ne-CELLS.false
 
 pub returns : goal.returns
-unfolding room
+unfolding read_outcome room
 returns c =
-    let s = c.args in
-    rw c.fill.ensures
-    (reading_sheet s.deck.now s.cells.now _ _ c.if-cells-ne-CELLS.false
-    (sym c.judged-answer.ensures ∙ c.in-Sheet.is))
+    let e = c.in_ok-size.ensures in
+    rw c.fill.ensures (reading_sheet c.args.deck.now c.args.cells.now _ _ c.if-cells-ne-CELLS.false (sym e))

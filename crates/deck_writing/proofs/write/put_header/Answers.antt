@@ -13,15 +13,15 @@ unfolding columns places long
 slice_bounds-put-end-2 c =
     sym (length-take-le long c.args.deck.now c.requires)
 
-pub put-requires-clause-content_len_bound : goal.put-requires-clause-content_len_bound
-put-requires-clause-content_len_bound c =
-    let w = c.args.width in
-    let h = c.args.height in
+pub put-requires-clause-content_fits : goal.put-requires-clause-content_fits
+put-requires-clause-content_fits c =
+    let w = c.args.size.width in
+    let h = c.args.size.height in
     rw c.heading-content.ensures (heading_fits w h, heading_bytes w h)
 
-pub put-requires-clause-bytes_len : goal.put-requires-clause-bytes_len
+pub put-requires-clause-one_card : goal.put-requires-clause-one_card
 unfolding columns places long
-put-requires-clause-bytes_len c = length-take-le long c.args.deck.now c.requires
+put-requires-clause-one_card c = length-take-le long c.args.deck.now c.requires
 
 pub returns : goal.returns
 unfolding columns places long

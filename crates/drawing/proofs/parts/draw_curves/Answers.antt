@@ -5,15 +5,14 @@ use Rattle.drawing.proofs.parts.draw_curves.Goals as goal
 
 pub slice_bounds-links-end : goal.slice_bounds-links-end
 slice_bounds-links-end c =
-    sym (front_long _ _ c.args.kept.now c.requires.1 (points_part _ _ _ c.points-n.ensures))
+    sym (front_long _ _ c.args.kept.now c.requires.0 (points_part _ _ _ c.points-n.ensures))
 
 pub links-requires : goal.links-requires
 links-requires c =
     let e = c.points-n.ensures in (
-      c.requires.0,
+      c.requires.1,
       c.requires.2,
       c.requires.3,
-      c.requires.4,
-      front_long _ _ c.args.kept.now c.requires.1 (points_part _ _ _ e) ∙ e,
-      rw e c.requires.5,
+      front_long _ _ c.args.kept.now c.requires.0 (points_part _ _ _ e) ∙ e,
+      rw e c.requires.4,
     )

@@ -1,41 +1,10 @@
-use mathlib.Core.Path.{sym, ap, ◌∙◌}
-use mathlib.Core.Bool.{not}
+use mathlib.Core.Path.{ap, ◌∙◌}
 use Rattle.answer.specs.Answer.{number_of}
-use Rattle.editor_answer.proofs.Asking.{named_refused, named_first_outside, named_second_outside, named_equal}
-use Rattle.editor_answer.proofs.Asking.{named_first_other, named_second_other, named_done}
+use Rattle.answer.proofs.Outcome.{handed_on}
+use Rattle.editor_answer.proofs.Asking.{named_refused}
 use Rattle.editor_answer.proofs.asked.named.Goals as goal
 
-pub returns-then-number-ne0 : goal.returns-then-number-ne0
-returns-then-number-ne0 c = named_refused _ _ _ _ _ _ (λ z. c.if-number-ne0.true (c.number.ensures ∙ z))
-
-pub returns-then-a-eq0 : goal.returns-then-a-eq0
-unfolding number_of
-returns-then-a-eq0 c = named_first_outside _ _ _ _ _ _ (sym c.number.ensures ∙ c.if-number-ne0.false) c.if-a-eq0.true
-
-pub returns-then-b-eq0 : goal.returns-then-b-eq0
-unfolding number_of
-returns-then-b-eq0 c =
-    named_second_outside _ _ _ _ _ _ (sym c.number.ensures ∙ c.if-number-ne0.false) c.if-a-eq0.false c.if-b-eq0.true
-
-pub returns-then-a-b : goal.returns-then-a-b
-unfolding number_of
-returns-then-a-b c =
-    named_equal _ _ _ _ _ _ (sym c.number.ensures ∙ c.if-number-ne0.false) c.if-a-eq0.false c.if-b-eq0.false c.if-a-b.true
-
-pub returns-then-not-is_theirs : goal.returns-then-not-is_theirs
-unfolding number_of
-returns-then-not-is_theirs c =
-    named_first_other _ _ _ _ _ _ (sym c.number.ensures ∙ c.if-number-ne0.false) c.if-a-eq0.false c.if-b-eq0.false c.if-a-b.false
-    _ c.is_theirs.ensures (ap not c.if-not-is_theirs.true)
-
-pub returns-then-not-is_theirs-2 : goal.returns-then-not-is_theirs-2
-unfolding number_of
-returns-then-not-is_theirs-2 c =
-    named_second_other _ _ _ _ _ _ (sym c.number.ensures ∙ c.if-number-ne0.false) c.if-a-eq0.false c.if-b-eq0.false c.if-a-b.false
-    _ c.is_theirs.ensures (ap not c.if-not-is_theirs.false) _ c.is_theirs-2.ensures (ap not c.if-not-is_theirs-2.true)
-
-pub returns : goal.returns
-unfolding number_of
-returns c =
-    named_done _ _ _ _ _ _ (sym c.number.ensures ∙ c.if-number-ne0.false) c.if-a-eq0.false c.if-b-eq0.false c.if-a-b.false
-    _ c.is_theirs.ensures (ap not c.if-not-is_theirs.false) _ c.is_theirs-2.ensures (ap not c.if-not-is_theirs-2.false)
+pub returns-in_err-answer : goal.returns-in_err-answer
+returns-in_err-answer c =
+    let (n, e) = handed_on _ c.from_residual.result _ c.in_err-answer.was c.from_residual.ensures.1 in
+    ap number_of e ∙ named_refused _ _ _ _ _ _ n

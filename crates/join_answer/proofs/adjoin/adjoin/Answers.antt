@@ -14,21 +14,21 @@ pub is_free-requires : goal.is_free-requires
 unfolding slots mark
 is_free-requires c =
     let q = c.requires in
-    (omega (arith, c.part_start-low.ensures), c.loop-high.invariant.0, omega (arith, q.1, points_fit _ _ q.0))
+    (omega (arith, c.part_start-low.ensures), c.loop-high.invariant.0, omega (arith, q, points_fit _ _ c.args.size.limited))
 
 pub adjoin_part-requires : goal.adjoin_part-requires
 unfolding slots mark
 adjoin_part-requires c =
     let q = c.requires in (
       omega (arith, c.part_start-low.ensures),
-      omega (arith, c.loop-high.invariant.0, q.1, points_fit _ _ q.0, (within_limits _ _ q.0).width_most),
+      omega (arith, c.loop-high.invariant.0, q, points_fit _ _ c.args.size.limited, (within_limits _ _ c.args.size.limited).width_most),
     )
 
 pub returns-then-adjoin_part : goal.returns-then-adjoin_part
 unfolding adjoin
 returns-then-adjoin_part c =
     let m = c.adjoin_part.ensures.0 c.if-adjoin_part.true in
-    sym (found_some _ _ _ (omega (arith, m.before, c.loop-high.invariant.0, c.requires.1)) m.passes)
+    sym (found_some _ _ _ (omega (arith, m.before, c.loop-high.invariant.0, c.requires)) m.passes)
 
 pub loop-high-smaller : goal.loop-high-smaller
 unfolding part
@@ -46,4 +46,4 @@ unfolding adjoin
 returns c =
     let g = c.loop-high.invariant.1 in
     let q = c.requires in
-    sym (none_some _ _ (λ d b. g d (omega (arith, c.loop-high-test.false)) (omega (arith, q.1))))
+    sym (none_some _ _ (λ d b. g d (omega (arith, c.loop-high-test.false)) (omega (arith, q))))

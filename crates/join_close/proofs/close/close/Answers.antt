@@ -12,7 +12,7 @@ use Rattle.join_close.proofs.close.close.Goals as goal
 
 -- The dart at hand is a slot.
 inside : (c : In-loop-dart)
-    → c.loop-dart.dart < slots c.args.width c.args.height
+    → c.loop-dart.dart < slots c.args.size.width c.args.size.height
 inside c = omega (arith, c.slots-n.ensures, c.loop-dart-test.true)
 
 pub loop-dart-init : goal.loop-dart-init
@@ -22,9 +22,9 @@ pub close_point-requires : goal.close_point-requires
 close_point-requires c =
     let q = c.requires in
     let p = slot_point _ _ _ (inside (at.close_point-requires c).In-loop-dart) in
-    let (fit, below) = darts_fit _ _ q.0 _ refl _ p in
+    let (fit, below) = darts_fit _ _ c.args.size.limited _ refl _ p in
     rw c.point.ensures
-    (q.1, fit, rw q.3 below, rw q.4 below, rw ((c.loop-dart.invariant q.8).nexts, q.5) below, rw q.6 p, q.7)
+    (q.0, fit, rw q.2 below, rw q.3 below, rw ((c.loop-dart.invariant q.7).nexts, q.4) below, rw q.5 p, q.6)
 
 pub loop-dart-preserved : goal.loop-dart-preserved
 loop-dart-preserved c =

@@ -10,10 +10,10 @@ use Rattle.join_close.proofs.close.close.Given as goal
 abbrev pub invariant-loop-dart : goal.invariant-loop-dart
 invariant-loop-dart l =
     (g : Visited (closes (on l.lines) l.tops) (close (on l.lines) l.tops) (links l.initial.next l.initial.other)
-    (slots l.width l.height) l.first l.list)
+    (slots l.fn.size.width l.fn.size.height) l.first l.list)
     → Going (closes (on l.lines) l.tops) (close (on l.lines) l.tops) (closes_none (on l.lines) l.tops) (closes_more (on l.lines) l.tops)
-    l.width
-    l.height
+    l.fn.size.width
+    l.fn.size.height
     (links l.initial.next l.initial.other)
     l.first
     l.list

@@ -1,12 +1,7 @@
 use mathlib.Core.Path.{sym, ◌∙◌}
 use native.Mathlib.Omega.{arith}
-use Rattle.point_darts.specs.Dart.{mark}
 use Rattle.join_darts.proofs.Listing.{listing_more, listing_less, bounds_here}
 use Rattle.join_darts.proofs.list.list_part.Goals as goal
-
-pub overflow_cast-first : goal.overflow_cast-first
-unfolding mark
-overflow_cast-first c = omega arith
 
 pub loop-i-preserved-then-is_either : goal.loop-i-preserved-then-is_either
 loop-i-preserved-then-is_either c =

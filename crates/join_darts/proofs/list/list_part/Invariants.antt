@@ -5,6 +5,3 @@ use Rattle.join_darts.proofs.list.list_part.Given as goal
 
 abbrev pub invariant-loop-i : goal.invariant-loop-i
 invariant-loop-i l = (l.low ≤ l.i) × Listing (bounds l.side l.a l.b) (length l.initial.list) l.i l.first l.list
-
-abbrev pub decreases-loop-i : goal.decreases-loop-i
-decreases-loop-i l = l.i

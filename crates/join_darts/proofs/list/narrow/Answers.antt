@@ -1,12 +1,7 @@
 use mathlib.Core.Path.{refl, sym, ◌∙◌}
 use native.Mathlib.Omega.{arith}
-use Rattle.point_darts.specs.Dart.{mark}
 use Rattle.join_darts.proofs.Narrowing.{listed_all, narrowed_none, narrowed_rest, narrowed_more}
 use Rattle.join_darts.proofs.list.narrow.Goals as goal
-
-pub overflow_cast-n : goal.overflow_cast-n
-unfolding mark
-overflow_cast-n c = omega (arith, c.requires.0)
 
 pub loop-dart-init : goal.loop-dart-init
 loop-dart-init c = λ g.

@@ -3,10 +3,6 @@ use Rattle.point_darts.specs.Dart.{mark}
 use Rattle.join_darts.proofs.Narrowing.{read_on, read_off, reached_more, reached_here}
 use Rattle.join_darts.proofs.list.reach.Goals as goal
 
-pub overflow_cast-n : goal.overflow_cast-n
-unfolding mark
-overflow_cast-n c = omega (arith, c.requires.0)
-
 pub returns-then-next-dart : goal.returns-then-next-dart
 unfolding mark
 returns-then-next-dart c =

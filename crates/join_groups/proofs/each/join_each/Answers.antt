@@ -1,9 +1,9 @@
-use mathlib.Core.Path.{sym, ◌∙◌}
 use Prim.Native.Nat.{◌<◌}
 use native.Mathlib.Omega.{arith}
 use lib.ListN.{length}
+use Rattle.answer.specs.Answer.{number_of}
+use Rattle.answer.proofs.Tested.{err_some, err_none}
 use Rattle.join_groups.proofs.Entries.{whole_most}
-use Rattle.join_groups.proofs.Pairing.{done_none}
 use Rattle.join_groups.proofs.Stopping.{stood_end, stood_stops, stood_on}
 use Rattle.join_groups.proofs.each.join_each.Goals.{In-loop-rest}
 use Rattle.join_groups.proofs.each.join_each.Goals.at as at
@@ -19,11 +19,11 @@ join_pair-answer-requires c =
     let o = c.loop-rest.invariant h u v in
     (h, o.tables, o.standing)
 
-pub returns-then-number-ne0 : goal.returns-then-number-ne0
-returns-then-number-ne0 c h u v =
-    let m = more (at.returns-then-number-ne0 c).In-loop-rest in
+pub returns-then-is_err : goal.returns-then-is_err
+returns-then-is_err c h u v =
+    let m = more (at.returns-then-is_err c).In-loop-rest in
     stood_stops _ h _ u _ _ _ _ _ _ _ _ (c.loop-rest.invariant h u v) m _ _ _ _ _ c.join_pair-answer.ensures
-    (λ y. c.if-number-ne0.true (c.number.ensures ∙ y))
+    (err_some _ c.if-is_err.ensures.value)
 
 pub overflow_add-place : goal.overflow_add-place
 overflow_add-place c =
@@ -35,7 +35,8 @@ pub loop-rest-preserved : goal.loop-rest-preserved
 loop-rest-preserved c = λ h u v.
     let m = more (at.loop-rest-preserved c).In-loop-rest in
     stood_on _ h _ u _ _ _ _ _ _ _ _ (c.loop-rest.invariant h u v) m _ _ _ _ _ c.join_pair-answer.ensures
-    (sym c.number.ensures ∙ c.if-number-ne0.false)
+    (err_none _ c.if-is_err.ensures.value)
 
 pub returns : goal.returns
-returns c h u v = rw done_none (stood_end _ h _ u _ _ _ _ _ _ _ _ (c.loop-rest.invariant h u v) c.loop-rest-test.false)
+unfolding number_of
+returns c h u v = stood_end _ h _ u _ _ _ _ _ _ _ _ (c.loop-rest.invariant h u v) c.loop-rest-test.false

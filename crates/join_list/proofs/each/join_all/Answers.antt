@@ -17,7 +17,7 @@ use Rattle.join_list.proofs.each.join_all.Goals as goal
 
 -- the work table that is lent at its front keeps its length
 fronted : (r : After-regroup-end)
-    → length (r.regroup-end.new.groups ++ drop (r.args.width * r.args.height) r.args.work_a.now) ≡ length r.args.work_a.now
+    → length (r.regroup-end.new.groups ++ drop (r.args.size.width * r.args.size.height) r.args.work_a.now) ≡ length r.args.work_a.now
 fronted r =
     let z = (stated_slots _ _ _ _ r.requires.1.sizes).1.1.1.1.0 in
     front_kept _ _ r.args.work_a.now z (cells_part _ _) r.regroup-end.new.groups r.regroup-end.auto.groups
@@ -51,7 +51,6 @@ regroup-end-requires c =
     let z = stated_slots _ _ _ _ o.sizes in
     let k = z.1.1.1.1 in (
       c.requires.0,
-      o.size,
       z.1.0,
       front_long _ _ c.args.work_a.now k.0 (cells_part _ _),
       k.1.0,
@@ -65,7 +64,6 @@ draw_names-requires c =
     let o = c.requires.1 in
     let k = c.regroup-end.auto in
     let g = c.regroup-end.ensures _ o.drawn refl refl in (
-      o.size,
       regrouped_stated _ _ _ _ _ _ _ _ _ _ _ _ _ _ _ _ _ _ o.sizes k.cells (fronted (at.draw_names-requires c).After-regroup-end)
           k.list k.first k.last,
       record { labels = g.labels; round = g.round },

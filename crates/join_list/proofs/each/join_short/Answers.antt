@@ -15,7 +15,6 @@ parents_after-requires c =
     let k = c.join_each-end.auto in
     let z = stated_slots _ _ _ _ q.1.sizes in
     let l = c.join_each-end.ensures.1 in (
-      q.1.size,
       k.side1 ∙ z.1.0,
       (stated_names _ _ _ _ q.1.sizes).0,
       k.back ∙ z.1.1.1.1.0,

@@ -1,5 +1,4 @@
 use mathlib.Core.Bool.{cond}
-use Prim.Native.Nat.{◌-◌}
 use Rattle.laws.specs.Least.{lower}
 use Rattle.point_darts.specs.Dart.{mark}
 use Rattle.paper.specs.Joining.{at, on}
@@ -8,6 +7,3 @@ use Rattle.join_lower.proofs.side.lower_sides.Given as goal
 
 abbrev pub invariant-loop-i : goal.invariant-loop-i
 invariant-loop-i l = Half (λ d. cond (on l.lines d) (lower l.a l.b (at l.initial.side d)) mark) l.i l.initial.side l.side
-
-abbrev pub decreases-loop-i : goal.decreases-loop-i
-decreases-loop-i l = l.n - l.i

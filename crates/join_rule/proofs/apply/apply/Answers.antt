@@ -13,7 +13,6 @@ pub find_parents-requires : goal.find_parents-requires
 find_parents-requires c =
     let q = c.requires in
     let z = stated_slots _ _ _ _ q.sizes in (
-      q.size,
       c.unite.auto.side1 ∙ z.1.0,
       (stated_names _ _ _ _ q.sizes).0,
       c.unite.auto.back ∙ z.1.1.1.1.0,

@@ -15,7 +15,7 @@ use Rattle.join_rule.proofs.apply.find_parents.Goals as goal
 -- The tops are a front of the table.
 tops_room : (c : After-points-n) → c.points-n.result ≤ length c.args.back.now
 unfolding slots
-tops_room c = omega (arith, c.requires.3, c.points-n.ensures)
+tops_room c = omega (arith, c.requires.2, c.points-n.ensures)
 
 pub slice_bounds-find_parents-end : goal.slice_bounds-find_parents-end
 slice_bounds-find_parents-end c = tops_room c
@@ -28,16 +28,15 @@ find_parents-requires c =
     let q = c.requires in
     let a = c.args in
     let e = c.points-n.ensures in (
-      q.0,
       length-take-le _ _ (tops_room (at.find_parents-requires c).After-points-n) ∙ e,
-      tops_rising _ _ (on a.side1.now) _ (ap (λ n. take n a.back.now) e ∙ q.4),
-      q.2,
+      tops_rising _ _ (on a.side1.now) _ (ap (λ n. take n a.back.now) e ∙ q.3),
       q.1,
+      q.0,
     )
 
 pub returns : goal.returns
 unfolding parents
 returns c = (
-  rw (c.points-n.ensures, c.requires.4) at c.find_parents.ensures,
+  rw (c.points-n.ensures, c.requires.3) at c.find_parents.ensures,
   pair_cleared _ _ _ _ c.clear.ensures c.clear-2.ensures,
 )

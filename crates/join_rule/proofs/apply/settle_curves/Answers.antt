@@ -6,15 +6,14 @@ use Rattle.join_rule.proofs.apply.settle_curves.Goals as goal
 pub close-requires : goal.close-requires
 close-requires c =
     let q = c.requires in (
-      q.0,
       c.point_table-point_table.ensures,
-      q.5,
+      q.4,
+      q.0,
       q.1,
-      q.2,
-      c.smooth.auto.next ∙ q.3,
-      c.top_points.auto.top ∙ q.4,
+      c.smooth.auto.next ∙ q.2,
+      c.top_points.auto.top ∙ q.3,
       tops_rising _ _ _ _ c.top_points.ensures,
-      rw (c.top_points.ensures, c.smooth.ensures) q.6.closing,
+      rw (c.top_points.ensures, c.smooth.ensures) q.5.closing,
     )
 
 pub returns : goal.returns

@@ -18,7 +18,7 @@ use Rattle.join_rule.proofs.apply.unite.Goals as goal
 
 -- The list is as long as the work table that it stands in.
 list_long : (c : After-list_darts-first)
-    → length c.list_darts-first.new.list ≡ slots c.args.width c.args.height
+    → length c.list_darts-first.new.list ≡ slots c.args.size.width c.args.size.height
 list_long c =
     let z = stated_slots _ _ _ _ c.requires.sizes in
     c.list_darts-first.auto.list ∙ z.1.1.1.1.1.0
@@ -35,7 +35,7 @@ lined_bounds c =
 
 narrow_long : (c : After-narrow-first3)
     → length c.narrow-first3.new.list
-    ≡ slots c.args.width c.args.height
+    ≡ slots c.args.size.width c.args.size.height
 narrow_long c = c.narrow-first3.auto.list ∙ list_long (at.After-narrow-first3 c).After-list_darts-first
 
 -- The table of reversals has room for the tops.
@@ -56,7 +56,6 @@ pub remove_plain_shared-gone-requires : goal.remove_plain_shared-gone-requires
 remove_plain_shared-gone-requires c =
     let q = c.requires in
     let z = stated_slots _ _ _ _ q.sizes in (
-      q.size,
       q.first,
       q.second,
       z.1.0,
@@ -106,7 +105,6 @@ settle-requires c =
     let q = c.requires in
     let l = (at.settle-requires c).After-list_darts-first in
     let z = stated_slots _ _ _ _ q.sizes in (
-      q.size,
       c.remove_plain_shared-gone.auto.next ∙ z.0,
       z.1.0,
       c.remove_shared.auto.next ∙ z.1.1.0,

@@ -8,10 +8,10 @@ use Rattle.join_shared.proofs.shared.remove_plain_shared.Goals as goal
 pub remove_nexts-requires : goal.remove_nexts-requires
 remove_nexts-requires c =
     let q = c.requires in
-    (within_fits _ _ q.0, q.1, q.2, q.3, q.4, q.5, bounded_all _ _ _ _ _ _ _ q.7, rw c.fill_reversals.ensures q.8)
+    (within_fits _ _ c.args.size.limited, q.0, q.1, q.2, q.3, q.4, bounded_all _ _ _ _ _ _ _ q.6, rw c.fill_reversals.ensures q.7)
 
 pub returns : goal.returns
 returns c =
     let q = c.requires in
     let r = rw c.fill_reversals.ensures at c.remove_nexts.ensures in
-    (r.0, r.1 (record { test = bounds _ _ _; list = q.7 }) ∙ shared_counted _ _ _ _ _)
+    (r.0, r.1 (record { test = bounds _ _ _; list = q.6 }) ∙ shared_counted _ _ _ _ _)

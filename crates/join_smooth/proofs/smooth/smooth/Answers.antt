@@ -12,7 +12,7 @@ use Rattle.join_smooth.proofs.smooth.smooth.Goals as goal
 
 -- The dart at hand is a slot.
 inside : (c : In-loop-dart)
-    → c.loop-dart.dart < slots c.args.width c.args.height
+    → c.loop-dart.dart < slots c.args.size.width c.args.size.height
 inside c = omega (arith, c.slots-n.ensures, c.loop-dart-test.true)
 
 pub loop-dart-init : goal.loop-dart-init
@@ -21,8 +21,8 @@ loop-dart-init c = λ g. going_start _ _ _ _ _ _ _ _ _ g
 pub smooth_point-requires : goal.smooth_point-requires
 smooth_point-requires c =
     let q = c.requires in
-    let (fit, below) = darts_fit _ _ q.0 _ refl _ (slot_point _ _ _ (inside (at.smooth_point-requires c).In-loop-dart)) in
-    rw c.point.ensures (q.1, fit, rw q.3 below, rw ((c.loop-dart.invariant q.5).nexts, q.4) below)
+    let (fit, below) = darts_fit _ _ c.args.size.limited _ refl _ (slot_point _ _ _ (inside (at.smooth_point-requires c).In-loop-dart)) in
+    rw c.point.ensures (q.0, fit, rw q.2 below, rw ((c.loop-dart.invariant q.4).nexts, q.3) below)
 
 pub loop-dart-preserved : goal.loop-dart-preserved
 loop-dart-preserved c =
@@ -34,4 +34,4 @@ loop-dart-preserved c =
 pub returns : goal.returns
 unfolding smoothed
 returns c =
-    (c.loop-dart.invariant c.requires.5).end (omega (arith, c.slots-n.ensures, c.loop-dart-test.false))
+    (c.loop-dart.invariant c.requires.4).end (omega (arith, c.slots-n.ensures, c.loop-dart-test.false))

@@ -9,8 +9,8 @@ use Rattle.join_smooth.proofs.smooth.smooth.Given as goal
 
 abbrev pub invariant-loop-dart : goal.invariant-loop-dart
 invariant-loop-dart l =
-    (g : Visited smooths smooth (links l.initial.next l.initial.other) (slots l.width l.height) l.first l.list)
-    → Going smooths smooth smooths_none smooths_more l.width l.height (links l.initial.next l.initial.other) l.first
+    (g : Visited smooths smooth (links l.initial.next l.initial.other) (slots l.fn.size.width l.fn.size.height) l.first l.list)
+    → Going smooths smooth smooths_none smooths_more l.fn.size.width l.fn.size.height (links l.initial.next l.initial.other) l.first
     l.list
     g
     l.dart

@@ -1,18 +1,27 @@
-use mathlib.Core.Path.{sym, ◌∙◌}
+use mathlib.Core.Path.{refl}
+use Rattle.std.specs.Prelude.{Ok, Err}
+use Rattle.answer.specs.Answer.{number_of}
+use Rattle.answer.proofs.Outcome.{told_on}
 use Rattle.level_call.proofs.Refused.{all_fit, refused, done}
 use Rattle.level_call.proofs.draw.draw.Goals as goal
 
-pub returns-then-number-ne0 : goal.returns-then-number-ne0
-returns-then-number-ne0 c =
-    refused _ _ _ _ _ _ _ c.refusal-answer.ensures (λ z. c.if-number-ne0.true (c.number.ensures ∙ z))
+pub returns-in_err-size : goal.returns-in_err-size
+unfolding number_of
+returns-in_err-size c =
+    let r = c.in_err-size in
+    told_on (Err _) c.from_residual.result _ refl c.from_residual.ensures.1 _ _ _
+    (refused _ _ _ _ _ _ (Err _) r.ensures.number)
 
 pub fill-requires : goal.fill-requires
+unfolding number_of
 fill-requires c =
-    let z = sym c.number.ensures ∙ c.if-number-ne0.false in
-    let (w, l, s, t) = all_fit _ _ _ _ _ _ c.refusal-answer.ensures z in
-    (w, l, s, t.0, t.1.0, t.1.1.0, t.1.1.1.0, t.1.1.1.1.0, t.1.1.1.1.1.0, t.1.1.1.1.1.1.0)
+    let r = c.in_ok-size.ensures in
+    let (w, l, s, t) = all_fit _ _ _ _ _ r.number in
+    rw (r.size.0, r.size.1)
+    (l, s, t.0, t.1.0, t.1.1.0, t.1.1.1.0, t.1.1.1.1.0, t.1.1.1.1.1.0, t.1.1.1.1.1.1.0)
 
 pub returns : goal.returns
+unfolding number_of
 returns c =
-    let z = sym c.number.ensures ∙ c.if-number-ne0.false in
-    done _ _ _ _ _ _ _ c.refusal-answer.ensures z _ _ c.fill.ensures.0 c.fill.ensures.1
+    let r = c.in_ok-size.ensures in
+    done _ _ _ _ _ _ (Ok tt) r.number refl _ _ r.size _ _ c.fill.ensures.0 c.fill.ensures.1

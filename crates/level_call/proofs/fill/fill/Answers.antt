@@ -11,28 +11,28 @@ use Rattle.level_call.proofs.fill.fill.Goals as goal
 pub slice_bounds-numbered-end : goal.slice_bounds-numbered-end
 slice_bounds-numbered-end c =
     let m = c.name_cells.auto.round in
-    omega (arith, c.requires.7, m, surround_part _ _ _ c.points-points.ensures)
+    omega (arith, c.requires.6, m, surround_part _ _ _ c.points-points.ensures)
 
 pub slice_bounds-numbered-end-2 : goal.slice_bounds-numbered-end-2
 slice_bounds-numbered-end-2 c =
     let m = c.name_cells.auto.round in
-    sym (length-take-le _ _ (omega (arith, c.requires.7, m, surround_part _ _ _ c.points-points.ensures)))
+    sym (length-take-le _ _ (omega (arith, c.requires.6, m, surround_part _ _ _ c.points-points.ensures)))
 
 pub slice_bounds-numbered-end-3 : goal.slice_bounds-numbered-end-3
 slice_bounds-numbered-end-3 c =
-    omega (arith, c.requires.8, points_part _ _ _ c.points-points.ensures)
+    omega (arith, c.requires.7, points_part _ _ _ c.points-points.ensures)
 
 pub slice_bounds-numbered-end-4 : goal.slice_bounds-numbered-end-4
 slice_bounds-numbered-end-4 c =
-    sym (length-take-le _ _ (omega (arith, c.requires.8, points_part _ _ _ c.points-points.ensures)))
+    sym (length-take-le _ _ (omega (arith, c.requires.7, points_part _ _ _ c.points-points.ensures)))
 
 pub slice_bounds-numbered-end-5 : goal.slice_bounds-numbered-end-5
 slice_bounds-numbered-end-5 c =
-    omega (arith, c.requires.9, points_part _ _ _ c.points-points.ensures)
+    omega (arith, c.requires.8, points_part _ _ _ c.points-points.ensures)
 
 pub slice_bounds-numbered-end-6 : goal.slice_bounds-numbered-end-6
 slice_bounds-numbered-end-6 c =
-    sym (length-take-le _ _ (omega (arith, c.requires.9, points_part _ _ _ c.points-points.ensures)))
+    sym (length-take-le _ _ (omega (arith, c.requires.8, points_part _ _ _ c.points-points.ensures)))
 
 pub numbered-requires : goal.numbered-requires
 numbered-requires c =
@@ -41,17 +41,16 @@ numbered-requires c =
     let k = c.name_cells.auto in
     let e = c.points-points.ensures in (
       q.0,
-      q.1,
-      length-take-le _ _ (omega (arith, q.7, k.round, surround_part _ _ _ e)) ∙ ap (λ m. m + c.args.width + 2) e,
-      k.first ∙ q.6,
+      length-take-le _ _ (omega (arith, q.6, k.round, surround_part _ _ _ e)) ∙ ap (λ m. m + c.args.size.width + 2) e,
+      k.first ∙ q.5,
+      length-take-le _ _ (omega (arith, q.7, points_part _ _ _ e)) ∙ e,
       length-take-le _ _ (omega (arith, q.8, points_part _ _ _ e)) ∙ e,
-      length-take-le _ _ (omega (arith, q.9, points_part _ _ _ e)) ∙ e,
+      q.2,
       q.3,
       q.4,
-      q.5,
       record {
         sheet = a.sheet.now;
-        names = ap (λ i. take (i + a.width + 2) c.name_cells.new.round) e ∙ c.name_cells.ensures;
+        names = ap (λ i. take (i + a.size.width + 2) c.name_cells.new.round) e ∙ c.name_cells.ensures;
       },
     )
 
@@ -61,8 +60,8 @@ returns c =
     let k = c.numbered.auto in
     let l = c.numbered.new in
     let m = c.name_cells.auto in (
-      filled_tables a.width a.height a.level a.sheet.now _ _ c.requires.0
-          (ap (λ i. take (i + a.width + 2) c.name_cells.new.round) c.points-points.ensures ∙ c.name_cells.ensures)
+      filled_tables a.size.width a.size.height a.level a.sheet.now _ _ c.args.size.limited
+          (ap (λ i. take (i + a.size.width + 2) c.name_cells.new.round) c.points-points.ensures ∙ c.name_cells.ensures)
           c.numbered.ensures,
       c.clear_four.ensures
           ∙ cleared_same _ _ _ _ a.a.now a.b.now a.c.now a.d.now (k.next1 ∙ m.first) m.round

@@ -7,8 +7,8 @@ pub loop-p-init : goal.loop-p-init
 unfolding mark
 loop-p-init c =
     let q = c.requires in
-    linking_none _ _ _ _ _ c.slots-steps.ensures c.args.next.now c.args.other.now q.0 q.3 q.4 q.5
-    q.1 q.2 c.fill.ensures c.fill-2.ensures
+    linking_none _ _ _ _ _ c.slots-steps.ensures c.args.next.now c.args.other.now c.args.size.limited q.2 q.3 q.4
+    q.0 q.1 c.fill.ensures c.fill-2.ensures
 
 pub returns : goal.returns
 unfolding dart slots

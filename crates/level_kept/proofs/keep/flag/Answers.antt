@@ -7,7 +7,7 @@ use Rattle.laws.specs.Table.{table, number}
 use Rattle.laws.proofs.Count.{number_below}
 use Rattle.level_kept.specs.Keep.{large}
 use Rattle.level_kept.proofs.Flags.{flags, flags_none, flags_long, flag_own, flags_next}
-use Rattle.level_kept.proofs.keep.flag.Goals.{After-larges, At-loop-i}
+use Rattle.level_kept.proofs.keep.flag.Goals.{After-larges, At-loop-i, After-loop-i}
 use Rattle.level_kept.proofs.keep.flag.Goals.at as at
 use Rattle.level_kept.proofs.keep.flag.Goals as goal
 
@@ -39,7 +39,7 @@ module _ (c : After-larges) where
   last k i f e = f ∙ ap below e ∙ ap (λ n. flags n masks tops n) c.requires.1
 
 -- What the write of a flag needs, and what it leaves.
-module _ (c : At-loop-i) where
+module _ (c : At-loop-i) (b : c.loop-i.i < length c.args.tops.now) where
   abbrev before : After-larges
   before = (at.At-loop-i c).After-larges
 
@@ -57,12 +57,13 @@ module _ (c : At-loop-i) where
         c.requires.2.up i,
         number_below (large (masks before) i),
         c.loop-i.invariant,
+        b,
       )
 
   raised : (k : List ℕ) → k ≡ set c.loop-i.kept (i - (i - get_or (tops before) i 0) * v) v → k ≡ below before (i + 1)
   raised k e =
       let f = c.loop-i.invariant in
-      e ∙ flags_next (length (tops before)) (masks before) (tops before) c.requires.2 refl i f.2 _ _ _ f.0 f.1 refl
+      e ∙ flags_next (length (tops before)) (masks before) (tops before) c.requires.2 refl i b _ _ _ f.0 f.1 refl
 
 pub returns-then-n-eq0 : goal.returns-then-n-eq0
 returns-then-n-eq0 c =
@@ -78,25 +79,36 @@ pub loop-i-init : goal.loop-i-init
 loop-i-init c =
     let a = (at.loop-i-init c).After-larges in
     let b : 0 < length (tops a) = omega arith in
-    (first a, own a _ 0 0 (first a) zero-le b, b)
+    (first a, own a _ 0 0 (first a) zero-le b)
 
 pub bounds-kept-i : goal.bounds-kept-i
 bounds-kept-i c = omega (arith, long (at.bounds-kept-i c).After-larges _ c.loop-i.i c.loop-i.invariant.0)
 
 pub raise-requires : goal.raise-requires
-raise-requires c = ready (at.raise-requires c).At-loop-i
+raise-requires c = ready (at.raise-requires c).At-loop-i (omega (arith, c.loop-i-test.true))
 
 pub loop-i-preserved : goal.loop-i-preserved
 loop-i-preserved c =
-    let b = c.loop-i-test.true in (
-      raised (at.loop-i-preserved c).At-loop-i _ c.raise.ensures,
+    let b : c.loop-i.i + 1 < length c.args.tops.now = omega (arith, c.loop-i-test.true) in (
+      raised (at.loop-i-preserved c).At-loop-i (omega arith) _ c.raise.ensures,
       own (at.loop-i-preserved c).After-larges _ _ _ c.loop-i.invariant.0 (omega arith) b,
-      b,
     )
 
+-- The last place.
+module _ (c : After-loop-i) where
+  at-last : c.loop-i.i ≡ length c.args.tops.now - 1
+  at-last = omega (arith, c.loop-i-test.false)
+
+  inside : c.loop-i.i < length c.args.tops.now
+  inside = omega (arith, at-last, c.if-n-eq0.false)
+
 pub raise-requires-2 : goal.raise-requires-2
-raise-requires-2 c = ready (at.raise-requires-2 c).At-loop-i
+raise-requires-2 c =
+    let e = (at.raise-requires-2 c).After-loop-i in
+    rw (at-last e) at (ready (at.raise-requires-2 c).At-loop-i (inside e))
 
 pub returns : goal.returns
 returns c =
-    last (at.returns c).After-larges _ _ (raised (at.returns c).At-loop-i _ c.raise-2.ensures) (omega (arith, c.loop-i.invariant.2))
+    let e = (at.returns c).After-loop-i in
+    let m : c.loop-i.i + 1 ≡ length c.args.tops.now = omega (arith, inside e, at-last e) in
+    last (at.returns c).After-larges _ _ (raised (at.returns c).At-loop-i (inside e) _ (rw (at-last e) c.raise-2.ensures)) m

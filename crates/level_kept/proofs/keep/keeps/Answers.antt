@@ -8,5 +8,5 @@ returns c =
     let m = a.masks.now in
     let t = a.tops.now in
     let e = c.points.ensures in
-    settled_keeps a.width a.height m t _ _ _ e
-    (c.flag.ensures ∙ ap (λ j. flags j m t j) (c.requires.3 ∙ sym e)) c.settle.ensures
+    settled_keeps a.size.width a.size.height m t _ _ _ e
+    (c.flag.ensures ∙ ap (λ j. flags j m t j) (c.requires.2 ∙ sym e)) c.settle.ensures

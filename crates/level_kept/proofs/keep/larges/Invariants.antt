@@ -1,4 +1,3 @@
-use Prim.Native.Nat.{◌-◌}
 use lib.ListN.{length}
 use Rattle.laws.specs.Table.{number}
 use Rattle.table_entries.proofs.Filled.{Filled}
@@ -7,6 +6,3 @@ use Rattle.level_kept.proofs.keep.larges.Given as goal
 
 abbrev pub invariant-loop-i : goal.invariant-loop-i
 invariant-loop-i l = Filled (length l.initial.kept) (λ p. number (large l.masks p)) l.i l.initial.kept l.kept
-
-abbrev pub decreases-loop-i : goal.decreases-loop-i
-decreases-loop-i l = l.n - l.i

@@ -6,14 +6,14 @@ use Rattle.level_lines.specs.Side.{sides}
 use Rattle.level_lines.proofs.side.sides.Goals as goal
 
 pub loop-p-init : goal.loop-p-init
-loop-p-init c = passed_none _ _ _ _ c.requires.3
+loop-p-init c = passed_none _ _ _ _ c.requires.2
 
 pub side_at-requires : goal.side_at-requires
 side_at-requires c =
     let q = c.requires in
     let e = c.points-n.ensures in
     let b = c.loop-p-test.true in
-    (omega (arith, q.2, e, b), omega (arith, q.1, e, b), passed_room _ _ _ _ e _ _ _ c.loop-p.invariant b)
+    (omega (arith, q.1, e, b), omega (arith, q.0, e, b), passed_room _ _ _ _ e _ _ _ c.loop-p.invariant b)
 
 pub loop-p-preserved : goal.loop-p-preserved
 loop-p-preserved c =

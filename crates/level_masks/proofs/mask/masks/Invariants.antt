@@ -1,4 +1,3 @@
-use Prim.Native.Nat.{◌-◌}
 use Rattle.point_darts.specs.Dart.{points}
 use Rattle.point_darts.specs.Point.{present}
 use Rattle.table_entries.proofs.Filled.{Filled}
@@ -6,7 +5,4 @@ use Rattle.level_masks.specs.Mask.{around}
 use Rattle.level_masks.proofs.mask.masks.Given as goal
 
 abbrev pub invariant-loop-p : goal.invariant-loop-p
-invariant-loop-p l = Filled (points l.width l.height) (λ q. present (around l.width l.framed q)) l.p l.initial.masks l.masks
-
-abbrev pub decreases-loop-p : goal.decreases-loop-p
-decreases-loop-p l = l.n - l.p
+invariant-loop-p l = Filled (points l.size.width l.size.height) (λ q. present (around l.size.width l.framed q)) l.p l.initial.masks l.masks

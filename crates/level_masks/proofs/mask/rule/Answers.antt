@@ -2,6 +2,9 @@ use Rattle.sheet_size.proofs.Limit.{within_limits}
 use Rattle.point_darts.proofs.Fit.{points_fit}
 use Rattle.level_masks.proofs.Ruling.{ruling_column, ruling_row, ruling_on, ruling_down, ruling_all}
 use native.Mathlib.Omega.{arith}
+use Prim.Native.Nat.{◌<◌}
+use Rattle.point_darts.specs.Dart.{points}
+use Rattle.level_masks.proofs.mask.rule.Goals.{then-size-x, else-size-x}
 use Rattle.level_masks.proofs.mask.rule.Goals as goal
 
 pub overflow_add-x : goal.overflow_add-x
@@ -9,7 +12,7 @@ overflow_add-x c =
     omega (
       arith,
       ruling_column _ _ _ _ _ _ _ c.loop-i.invariant,
-      within_limits _ _ c.requires.0,
+      within_limits _ _ c.args.size.limited,
     )
 
 pub overflow_add-y : goal.overflow_add-y
@@ -18,30 +21,24 @@ overflow_add-y c =
       arith,
       ruling_row _ _ _ _ _ _ _ c.loop-i.invariant,
       c.loop-i-test.true,
-      c.requires.1,
-      points_fit _ _ c.requires.0,
+      c.requires,
+      points_fit _ _ c.args.size.limited,
     )
-
-pub loop-i-preserved-then-width-x : goal.loop-i-preserved-then-width-x
-loop-i-preserved-then-width-x c =
-    ruling_down _ _ _ _ _ _ _ c.loop-i.invariant _ (omega (
-      arith,
-      c.loop-i-test.true,
-      c.requires.1,
-    )) c.ruling.ensures c.if-width-x.true
 
 pub loop-i-preserved : goal.loop-i-preserved
 loop-i-preserved c =
-    ruling_on _ _ _ _ _ _ _ c.loop-i.invariant _ (omega (
-      arith,
-      c.loop-i-test.true,
-      c.requires.1,
-    )) c.ruling.ensures c.if-width-x.false
+    let b : c.loop-i.i < points c.args.size.width c.args.size.height = omega (arith, c.loop-i-test.true, c.requires) in
+    elim c.if-size-x.branch [
+      | then-size-x w ↦ rw (w.x-is, w.y-is)
+          (ruling_down _ _ _ _ _ _ _ c.loop-i.invariant _ b c.ruling.ensures w.if-size-x.true)
+      | else-size-x w ↦ rw (w.x-is, w.y-is)
+          (ruling_on _ _ _ _ _ _ _ c.loop-i.invariant _ b c.ruling.ensures w.if-size-x.false)
+    ]
 
 pub returns : goal.returns
 returns c =
     ruling_all _ _ _ _ _ _ _ c.loop-i.invariant (omega (
       arith,
       c.loop-i-test.false,
-      c.requires.1,
+      c.requires,
     ))

@@ -19,4 +19,6 @@ unfolding right
 returns-in-3 c = rw c.in-3.is c.corner-in-3.ensures
 
 pub returns-in_default : goal.returns-in_default
-returns-in_default c = rw (right_rest _ _ c.in_default.in_default-own.rest.0.0.0.1 c.in_default.in_default-own.rest.0.0.1 c.in_default.in_default-own.rest.0.1 c.in_default.in_default-own.rest.1)
+returns-in_default c =
+    let r = c.in_default.in_default-own.rest in
+    rw (right_rest _ _ r.0.0.0.1 r.0.0.1 r.0.1 r.1)

@@ -13,8 +13,8 @@ returns-in-1 c = rw c.in-1.is
 
 pub returns-in-2 : goal.returns-in-2
 unfolding beside
-returns-in-2 c = rw c.in-2.is c.less.ensures
+returns-in-2 c = rw c.in-2.is c.saturating_sub.ensures
 
 pub returns-in_default : goal.returns-in_default
 returns-in_default c =
-    rw (beside_rest _ _ c.args.direction (omega arith) (omega arith) (omega arith)) c.less-in_default.ensures
+    rw (beside_rest _ _ c.args.direction (omega arith) (omega arith) (omega arith)) c.saturating_sub-in_default.ensures

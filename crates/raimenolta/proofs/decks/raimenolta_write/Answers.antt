@@ -4,4 +4,4 @@ use Rattle.raimenolta.proofs.decks.raimenolta_write.Goals as goal
 
 pub returns : goal.returns
 unfolding write_outcome carded
-returns c = rw (c.number.ensures, ← c.write-answer.ensures)
+returns c = rw (c.write_number.ensures, ← c.write.ensures)

@@ -1,6 +1,5 @@
-use Rattle.raimenolta.proofs.Slots.{count_slotted, depth_valued}
+use Rattle.raimenolta.proofs.Slots.{count_slotted}
 use Rattle.raimenolta.proofs.drawings.raimenolta_depth.Goals as goal
 
 pub returns : goal.returns
 returns c = count_slotted _ _ _ _ _ _ _ c.put.ensures.0 c.put.ensures.1 c.depth-answer.ensures
-    (depth_valued _ _ _ _ _)

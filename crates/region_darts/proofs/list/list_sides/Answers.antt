@@ -13,10 +13,6 @@ loop-i-init c =
     let q = c.requires in
     listing_none _ _ _ _ _ _ c.fill.ensures (c.fill-2.ensures ∙ ap (λ n. replicate n mark) q.2) (sym q.0) refl
 
-pub overflow_cast-i : goal.overflow_cast-i
-unfolding mark
-overflow_cast-i c = omega arith
-
 pub loop-i-preserved-then-name : goal.loop-i-preserved-then-name
 unfolding mark
 loop-i-preserved-then-name c =

@@ -4,6 +4,3 @@ use Rattle.region_darts.proofs.list.list_sides.Given as goal
 
 abbrev pub invariant-loop-i : goal.invariant-loop-i
 invariant-loop-i l = Listing l.side (length l.initial.last) l.i l.list l.first l.last
-
-abbrev pub decreases-loop-i : goal.decreases-loop-i
-decreases-loop-i l = l.i

@@ -1,4 +1,3 @@
-use Prim.Native.Nat.{◌-◌}
 use lib.ListN.{length}
 use Rattle.paper.specs.Enclosure.{depth}
 use Rattle.region_depths.specs.Census.{counted_at}
@@ -7,6 +6,3 @@ use Rattle.region_depths.proofs.census.all_depths.Given as goal
 
 abbrev pub invariant-loop-i : goal.invariant-loop-i
 invariant-loop-i l = Filled (length l.parent) (counted_at depth l.parent) l.i l.initial.depths l.depths
-
-abbrev pub decreases-loop-i : goal.decreases-loop-i
-decreases-loop-i l = l.n - l.i

@@ -8,29 +8,18 @@ use Rattle.table_forest.proofs.Reach.{growing, reached_none, reached_more, reach
 use Rattle.region_names.proofs.cells.first_cells.Goals as goal
 
 pub overflow_mul-n : goal.overflow_mul-n
-overflow_mul-n c = omega (arith, cells_fit _ _ c.requires.0)
+overflow_mul-n c = omega (arith, cells_fit _ _ c.args.size.limited)
 
 pub loop-i-init : goal.loop-i-init
-loop-i-init c = (reached_none _ _ _ _ c.requires.2, sym (zero-mod c.args.width))
-
-pub overflow_add-i : goal.overflow_add-i
-overflow_add-i c =
-    omega (arith, cells_fit _ _ c.requires.0, c.loop-i-test.true)
-
-pub loop-i-preserved-then-column-width : goal.loop-i-preserved-then-column-width
-loop-i-preserved-then-column-width c =
-    let g = c.grow in
-    let f = c.loop-i.invariant in (
-      reached_more _ _ _ _ _ f.0 _ g.auto.first (g.ensures (growing _ _ _ _ _ f.0)),
-      column_back _ (within_limits _ _ c.requires.0).width_some _ _ f.1 c.if-column-width.true,
-    )
+loop-i-init c = (reached_none _ _ _ _ c.requires.1, sym (zero-mod c.args.size.width))
 
 pub loop-i-preserved : goal.loop-i-preserved
 loop-i-preserved c =
     let g = c.grow in
-    let f = c.loop-i.invariant in (
+    let f = c.loop-i.invariant in
+    let some = (within_limits _ _ c.args.size.limited).width_some in (
       reached_more _ _ _ _ _ f.0 _ g.auto.first (g.ensures (growing _ _ _ _ _ f.0)),
-      column_on _ (within_limits _ _ c.requires.0).width_some _ _ f.1 c.if-column-width.false,
+      grind (arith, column_on _ some _ _ f.1, column_back _ some _ _ f.1),
     )
 
 pub returns : goal.returns

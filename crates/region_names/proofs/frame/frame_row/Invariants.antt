@@ -1,10 +1,7 @@
-use Prim.Native.Nat.{suc, ◌+◌, ◌-◌, ◌≤◌}
+use Prim.Native.Nat.{suc, ◌+◌}
 use lib.ListN.{get_or}
 use Rattle.table_entries.proofs.Rowed.{Rowing}
 use Rattle.region_names.proofs.frame.frame_row.Given as goal
 
 abbrev pub invariant-loop-x : goal.invariant-loop-x
-invariant-loop-x l = (l.x ≤ l.width) × Rowing (λ i. suc (get_or l.first (l.from + i) 0)) l.to l.x l.initial.names l.names
-
-abbrev pub decreases-loop-x : goal.decreases-loop-x
-decreases-loop-x l = l.width - l.x
+invariant-loop-x l = Rowing (λ i. suc (get_or l.first (l.from + i) 0)) l.to l.x l.initial.names l.names

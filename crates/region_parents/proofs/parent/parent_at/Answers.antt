@@ -19,29 +19,6 @@ module _ (f : After-first_slot-2) where
   unfolding dart
   back_in = omega (arith, f.first_slot-2.ensures, f.requires.3.up f.args.corner, f.requires.0)
 
-pub offset_bounds-side-first_slot : goal.offset_bounds-side-first_slot
-unfolding mark dart
-offset_bounds-side-first_slot c = omega (arith, c.first_slot.ensures)
-
-pub bounds-side-first_slot : goal.bounds-side-first_slot
-bounds-side-first_slot c = first-in (at.bounds-side-first_slot c).After-first_slot
-
-pub overflow_add-top : goal.overflow_add-top
-unfolding mark dart
-overflow_add-top c =
-    omega (arith, c.requires.3.up c.args.corner)
-
-pub overflow_add-out : goal.overflow_add-out
-unfolding mark
-overflow_add-out c = omega (arith, back_in c, c.requires.1)
-
-pub offset_bounds-side-first_slot-2 : goal.offset_bounds-side-first_slot-2
-unfolding mark
-offset_bounds-side-first_slot-2 c = omega (arith, back_in c, c.requires.1)
-
-pub bounds-side-first_slot-2 : goal.bounds-side-first_slot-2
-bounds-side-first_slot-2 c = omega (arith, back_in (at.bounds-side-first_slot-2 c).After-first_slot-2)
-
 pub returns : goal.returns
 unfolding mark
 returns c =
@@ -50,9 +27,9 @@ returns c =
     let s = c.type_inv.side (c.first_slot-2.result + 2) in
     elim c.if-first-name.branch [
       | then-first-name w ↦
-          let u : c.larger.result ≡ get_or c.args.side.now (c.first_slot-2.result + 2) 0 = omega (arith, s, w.other-is) in
+          let u : c.max.result ≡ get_or c.args.side.now (c.first_slot-2.result + 2) 0 = omega (arith, s, w.other-is) in
           u ∙ parent_used _ _ _ _ _ _ c.first_slot.ensures f w.if-first-name.true c.requires.4 _ c.first_slot-2.ensures b
       | else-first-name w ↦
-          let u : c.larger.result ≡ mark = omega (arith, s, w.other-is) in
+          let u : c.max.result ≡ mark = omega (arith, s, w.other-is) in
           u ∙ parent_unused _ _ _ _ _ _ c.first_slot.ensures f w.if-first-name.false
     ]

@@ -1,9 +1,5 @@
-use Prim.Native.Nat.{◌-◌, ◌≤◌}
 use Rattle.region_totals.specs.Tally.{Ruled}
 use Rattle.region_totals.proofs.tally.rule.Given as goal
 
 abbrev pub invariant-loop-p : goal.invariant-loop-p
-invariant-loop-p l = Ruled l.width l.names l.points l.round l.p l.odd × (l.p ≤ l.points)
-
-abbrev pub decreases-loop-p : goal.decreases-loop-p
-decreases-loop-p l = l.points - l.p
+invariant-loop-p l = Ruled l.width l.names l.points l.round l.p l.odd

@@ -8,22 +8,22 @@ pub tally-requires : goal.tally-requires
 tally-requires c =
     let e = c.points-points.ensures in
     let q = c.requires in (
-      rw q.3 q.2,
-      rw (← e) at q.1,
-      four_fit _ _ _ q.0 e,
-      omega (arith, q.3, cells_points c.args.width c.args.height, e),
+      rw q.2 q.1,
+      rw (← e) at q.0,
+      four_fit _ _ _ c.args.size.limited e,
+      omega (arith, q.2, cells_points c.args.size.width c.args.size.height, e),
       refl,
-      q.4 ∙ sym q.3,
-      four_slots _ _ _ _ e q.5,
+      q.3 ∙ sym q.2,
+      four_slots _ _ _ _ e q.4,
     )
 
 pub add_up-requires : goal.add_up-requires
 add_up-requires c =
     let e = c.points-points.ensures in
     let t = c.tally.ensures in
-    let f = four_fit _ _ _ c.requires.0 e in (
+    let f = four_fit _ _ _ c.args.size.limited e in (
       t.long_borders ∙ sym t.long_cells,
-      omega (arith, t.long_cells, t.long_odd, c.requires.3, cells_points c.args.width c.args.height, e),
+      omega (arith, t.long_cells, t.long_odd, c.requires.2, cells_points c.args.size.width c.args.size.height, e),
       omega (arith, t.long_odd, f),
       tallied_small _ _ _ _ _ _ _ t f,
     )
@@ -31,4 +31,4 @@ add_up-requires c =
 pub returns : goal.returns
 returns c =
     let t = c.tally.ensures in
-    totals_all _ _ _ _ _ _ _ _ _ _ t c.points-points.ensures c.requires.3 t.long_cells c.add_up.ensures.0 c.add_up.ensures.1
+    totals_all _ _ _ _ _ _ _ _ _ _ t c.points-points.ensures c.requires.2 t.long_cells c.add_up.ensures.0 c.add_up.ensures.1

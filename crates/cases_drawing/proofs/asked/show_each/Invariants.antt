@@ -1,8 +1,0 @@
-use Rattle.std.specs.Prelude.{◌-◌, length}
-use Rattle.cases_drawing.proofs.asked.show_each.Given as goal
-
-abbrev pub invariant-loop-i : goal.invariant-loop-i
-invariant-loop-i g l = Unit {0}
-
-abbrev pub decreases-loop-i : goal.decreases-loop-i
-decreases-loop-i g l = length l.first - l.i
