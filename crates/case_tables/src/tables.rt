@@ -2,116 +2,90 @@ use crate::show;
 use answer::Refusal;
 use case_sheets::lengths::{Lengths, WorkLengths};
 use case_sheets::lent;
+use std::alloc::{AllocError, Global};
 use std::io;
 use std::io::Write;
 
-// The seven tables of a drawing, each with room for the longest.
-#[derive(Clone, Copy, PartialEq, Eq)]
+// The seven tables of a drawing.
+#[derive(Clone, PartialEq, Eq, Drop)]
 pub struct Tables {
-    pub next1: [u16; lent::ROOM],
-    pub side1: [u16; lent::ROOM],
-    pub next3: [u16; lent::ROOM],
-    pub other3: [u16; lent::ROOM],
-    pub parent: [u16; lent::ROOM],
-    pub cells: [u16; lent::ROOM],
-    pub borders: [u16; lent::ROOM],
+    pub next1: Vec<u16>,
+    pub side1: Vec<u16>,
+    pub next3: Vec<u16>,
+    pub other3: Vec<u16>,
+    pub parent: Vec<u16>,
+    pub cells: Vec<u16>,
+    pub borders: Vec<u16>,
 }
 
-// Four work tables, each with room for the longest.
-#[derive(Clone, Copy)]
+// Four work tables.
+#[derive(Drop)]
 pub struct Works {
-    pub a: [u16; lent::ROOM],
-    pub b: [u16; lent::ROOM],
-    pub c: [u16; lent::ROOM],
-    pub d: [u16; lent::ROOM],
-}
-
-// What a call answered, and the tables after it.
-#[derive(Clone, Copy)]
-pub struct Answered {
-    pub answer: Result<(), Refusal>,
-    pub tables: Tables,
-    pub works: Works,
+    pub a: Vec<u16>,
+    pub b: Vec<u16>,
+    pub c: Vec<u16>,
+    pub d: Vec<u16>,
 }
 
 impl Tables {
-    // Tables that no call has touched.
-    pub fn untouched() -> Tables {
-        let table = [lent::UNTOUCHED; lent::ROOM];
-        Tables {
-            next1: table,
-            side1: table,
-            next3: table,
-            other3: table,
-            parent: table,
-            cells: table,
-            borders: table,
-        }
+    // Tables of these lengths that no call has touched.
+    pub fn untouched(alloc: Global, lengths: Lengths) -> Result<Tables, AllocError> {
+        Ok(Tables {
+            next1: vec![in alloc; lent::UNTOUCHED; lengths.next1]?,
+            side1: vec![in alloc; lent::UNTOUCHED; lengths.side1]?,
+            next3: vec![in alloc; lent::UNTOUCHED; lengths.next3]?,
+            other3: vec![in alloc; lent::UNTOUCHED; lengths.other3]?,
+            parent: vec![in alloc; lent::UNTOUCHED; lengths.parent]?,
+            cells: vec![in alloc; lent::UNTOUCHED; lengths.cells]?,
+            borders: vec![in alloc; lent::UNTOUCHED; lengths.borders]?,
+        })
     }
 }
 
 impl Works {
-    // Work tables that no call has touched, and that are not clear.
-    pub fn untouched() -> Works {
-        let table = [lent::UNTOUCHED; lent::ROOM];
-        Works {
-            a: table,
-            b: table,
-            c: table,
-            d: table,
-        }
+    // Work tables of these lengths that no call has touched, and that are not clear.
+    pub fn untouched(alloc: Global, lengths: WorkLengths) -> Result<Works, AllocError> {
+        Ok(Works {
+            a: vec![in alloc; lent::UNTOUCHED; lengths.a]?,
+            b: vec![in alloc; lent::UNTOUCHED; lengths.b]?,
+            c: vec![in alloc; lent::UNTOUCHED; lengths.c]?,
+            d: vec![in alloc; lent::UNTOUCHED; lengths.d]?,
+        })
     }
 }
 
-// The entries of a table up to a length.
-pub fn front(table: &[u16; lent::ROOM], length: usize) -> &[u16] {
-    lent::part(table, 0, length)
-}
-
-// A table that starts with the numbers of a list.
-fn filled(list: &[u16]) -> [u16; lent::ROOM] {
-    let mut table = [lent::UNTOUCHED; lent::ROOM];
-    lent::copy(list, &mut table);
-    table
-}
-
-// The seven tables that stand one after another in a list, by their lengths.
-pub fn given(lengths: &[u16], list: &[u16]) -> Tables {
-    let s = lent::length(lengths, 0);
-    let y = s + lent::length(lengths, 1);
-    let o = y + lent::length(lengths, 2);
-    let p = o + lent::length(lengths, 3);
-    let c = p + lent::length(lengths, 4);
-    let b = c + lent::length(lengths, 5);
-    Tables {
-        next1: filled(list),
-        side1: filled(lent::from(list, s)),
-        next3: filled(lent::from(list, y)),
-        other3: filled(lent::from(list, o)),
-        parent: filled(lent::from(list, p)),
-        cells: filled(lent::from(list, c)),
-        borders: filled(lent::from(list, b)),
-    }
+// The seven tables of these lengths that stand one after another in a list, or as much of them as it has.
+pub fn of_list(alloc: Global, lengths: Lengths, list: &[u16]) -> Result<Tables, AllocError> {
+    let mut tables = Tables::untouched(alloc, lengths)?;
+    let side1 = lent::from(list, lengths.next1);
+    let next3 = lent::from(side1, lengths.side1);
+    let other3 = lent::from(next3, lengths.next3);
+    let parent = lent::from(other3, lengths.other3);
+    let cells = lent::from(parent, lengths.parent);
+    let borders = lent::from(cells, lengths.cells);
+    lent::copy(list, &mut tables.next1);
+    lent::copy(side1, &mut tables.side1);
+    lent::copy(next3, &mut tables.next3);
+    lent::copy(other3, &mut tables.other3);
+    lent::copy(parent, &mut tables.parent);
+    lent::copy(cells, &mut tables.cells);
+    lent::copy(borders, &mut tables.borders);
+    Ok(tables)
 }
 
 // Writes the seven tables of a drawing, in full or by their sums.
-pub fn show<W: Write>(
-    out: &mut W,
-    lengths: Lengths,
-    tables: &Tables,
-    full: bool,
-) -> io::Result<()> {
-    show::table(out, front(&tables.next1, lengths.next1), full)?;
-    show::table(out, front(&tables.side1, lengths.side1), full)?;
-    show::table(out, front(&tables.next3, lengths.next3), full)?;
-    show::table(out, front(&tables.other3, lengths.other3), full)?;
-    show::table(out, front(&tables.parent, lengths.parent), full)?;
-    show::table(out, front(&tables.cells, lengths.cells), full)?;
-    show::table(out, front(&tables.borders, lengths.borders), full)
+pub fn show<W: Write>(out: &mut W, tables: &Tables, full: bool) -> io::Result<()> {
+    show::table(out, &tables.next1, full)?;
+    show::table(out, &tables.side1, full)?;
+    show::table(out, &tables.next3, full)?;
+    show::table(out, &tables.other3, full)?;
+    show::table(out, &tables.parent, full)?;
+    show::table(out, &tables.cells, full)?;
+    show::table(out, &tables.borders, full)
 }
 
 // Whether a table is as it was before a call.
-pub fn untouched(table: &[u16; lent::ROOM]) -> bool {
+pub fn untouched(table: &[u16]) -> bool {
     lent::all_are(table, lent::UNTOUCHED)
 }
 
@@ -131,32 +105,25 @@ fn kept(works: &Works) -> bool {
     untouched(&works.a) & untouched(&works.b) & untouched(&works.c) & untouched(&works.d)
 }
 
-// Whether a table is 0 up to a length.
-fn clear(table: &[u16; lent::ROOM], length: usize) -> bool {
-    lent::all_are(front(table, length), 0)
+// Whether the work tables are all 0.
+fn cleared(works: &Works) -> bool {
+    lent::all_are(&works.a, 0)
+        & lent::all_are(&works.b, 0)
+        & lent::all_are(&works.c, 0)
+        & lent::all_are(&works.d, 0)
 }
 
-// Whether the work tables are 0 up to their lengths.
-fn cleared(lengths: WorkLengths, works: &Works) -> bool {
-    clear(&works.a, lengths.a)
-        & clear(&works.b, lengths.b)
-        & clear(&works.c, lengths.c)
-        & clear(&works.d, lengths.d)
-}
-
-// Writes whether the work tables of a call, which have these lengths, are as they were, where what was lent is refused, and else
-// whether they are all 0.
+// Writes whether the work tables of a call are as they were, where what was lent is refused, and else whether they are all 0.
 pub fn show_works<W: Write, T: Copy>(
     out: &mut W,
     answer: Result<T, Refusal>,
-    lengths: WorkLengths,
     works: &Works,
 ) -> io::Result<()> {
     match answer {
         Err(Refusal::Size | Refusal::Level | Refusal::Sheet | Refusal::Tables) => {
             show::kept(out, kept(works))
         }
-        _ => show::cleared(out, cleared(lengths, works)),
+        _ => show::cleared(out, cleared(works)),
     }
 }
 
@@ -164,13 +131,14 @@ pub fn show_works<W: Write, T: Copy>(
 // are left.
 pub fn show_joined<W: Write>(
     out: &mut W,
-    lengths: Lengths,
+    answer: Result<(), Refusal>,
     before: &Tables,
-    joined: &Answered,
+    tables: &Tables,
+    works: &Works,
 ) -> io::Result<()> {
-    show::number(out, answer::number(joined.answer))?;
-    if joined.answer.is_err() {
-        show::kept(out, *before == joined.tables)?;
+    show::number(out, answer::number(answer))?;
+    if answer.is_err() {
+        show::kept(out, *before == *tables)?;
     }
-    show_works(out, joined.answer, lengths.works, &joined.works)
+    show_works(out, answer, works)
 }

@@ -1,80 +1,57 @@
-ghost use Rattle.std.specs.Prelude.{◌≤◌};
-ghost use Rattle.case_sheets.specs.Room.{room, Fits};
-
 use answer::Refusal;
-use case_sheets::lengths::{Lengths, Size};
+use case_sheets::lengths::{Size, WorkLengths};
 use case_sheets::lent;
 use case_tables::tables::{Tables, Works};
 use case_tables::{show, tables};
 use check_call::check;
 use count_call::{count, turns};
 use point_darts::dart;
+use std::alloc::Global;
 use std::io;
 use std::io::Write;
 
-// What a call answered, and the work tables after it.
-#[derive(Clone, Copy)]
-pub struct Answered<T> {
-    pub answer: Result<T, Refusal>,
-    pub works: Works,
-}
-
-// What a call that fills two tables answered, and the tables after it.
-#[derive(Clone, Copy)]
-pub struct Filled {
-    pub answer: Result<(), Refusal>,
-    pub first: [u16; lent::ROOM],
-    pub second: [u16; lent::ROOM],
-    pub works: Works,
-}
-
-// Asks the check of tables of these lengths, with work tables that are not clear.
-fn check_of(size: Size, lengths: Lengths, tables: &Tables) -> Answered<()>
-    requires { Fits lengths }
-{
-    let mut works = Works::untouched();
-    let answer = check::check(
+// Asks the check of seven tables, with work tables.
+fn check_of(size: Size, tables: &Tables, works: &mut Works) -> Result<(), Refusal> {
+    check::check(
         size.width,
         size.height,
-        &tables.next1[..lengths.next1],
-        &tables.side1[..lengths.side1],
-        &tables.next3[..lengths.next3],
-        &tables.other3[..lengths.other3],
-        &tables.parent[..lengths.parent],
-        &tables.cells[..lengths.cells],
-        &tables.borders[..lengths.borders],
-        &mut works.a[..lengths.works.a],
-        &mut works.b[..lengths.works.b],
-        &mut works.c[..lengths.works.c],
-        &mut works.d[..lengths.works.d],
-    );
-    Answered { answer, works }
+        &tables.next1,
+        &tables.side1,
+        &tables.next3,
+        &tables.other3,
+        &tables.parent,
+        &tables.cells,
+        &tables.borders,
+        &mut works.a,
+        &mut works.b,
+        &mut works.c,
+        &mut works.d,
+    )
 }
 
 // Writes how the work tables are left, and ends the line.
 fn show_end<W: Write, T: Copy>(
     out: &mut W,
     answer: Result<T, Refusal>,
-    lengths: Lengths,
     works: &Works,
 ) -> io::Result<()> {
-    tables::show_works(out, answer, lengths.works, works)?;
+    tables::show_works(out, answer, works)?;
     show::line_end(out)
 }
 
-// What the check answers.
+// What the check answers, with work tables of these lengths.
 pub(crate) fn check<W: Write>(
+    alloc: Global,
     out: &mut W,
     size: Size,
-    lengths: Lengths,
+    lengths: WorkLengths,
     tables: &Tables,
-) -> io::Result<()>
-    requires { Fits lengths }
-{
-    let checked = check_of(size, lengths, tables);
+) -> io::Result<()> {
+    let mut works = Works::untouched(alloc, lengths)?;
+    let answer = check_of(size, tables, &mut works);
     show::text(out, b"check")?;
-    show::number(out, answer::number(checked.answer))?;
-    show_end(out, checked.answer, lengths, &checked.works)
+    show::number(out, answer::number(answer))?;
+    show_end(out, answer, &works)
 }
 
 // Writes each name, or dart, with its entries of two tables, where it has them.
@@ -93,53 +70,46 @@ fn show_one<W: Write>(out: &mut W, place: u16, first: u16, second: u16) -> io::R
     write!(out, " {place} {first} {second}")
 }
 
-// Counts all names of tables of these lengths into two tables of a length each, with work tables that are not clear. Each call is
-// asked in a function of its own: a call passed as a parameter may have 12 arguments, and these have more.
-fn counts_of(size: Size, m: usize, h: usize, lengths: Lengths, tables: &Tables) -> Filled
-    requires { Fits lengths × (m ≤ room) × (h ≤ room) }
-{
-    let mut depths = [lent::UNTOUCHED; lent::ROOM];
-    let mut holes = [lent::UNTOUCHED; lent::ROOM];
-    let mut works = Works::untouched();
-    let answer = count::counts(
+// Counts all names of seven tables into two tables, with work tables. Each call is asked in a function of its own: a call passed as
+// a parameter may have 12 arguments, and these have more.
+fn counts_of(
+    size: Size,
+    tables: &Tables,
+    depths: &mut [u16],
+    holes: &mut [u16],
+    works: &mut Works,
+) -> Result<(), Refusal> {
+    count::counts(
         size.width,
         size.height,
-        &tables.next1[..lengths.next1],
-        &tables.side1[..lengths.side1],
-        &tables.next3[..lengths.next3],
-        &tables.other3[..lengths.other3],
-        &tables.parent[..lengths.parent],
-        &tables.cells[..lengths.cells],
-        &tables.borders[..lengths.borders],
-        &mut depths[..m],
-        &mut holes[..h],
-        &mut works.a[..lengths.works.a],
-        &mut works.b[..lengths.works.b],
-        &mut works.c[..lengths.works.c],
-        &mut works.d[..lengths.works.d],
-    );
-    Filled {
-        answer,
-        first: depths,
-        second: holes,
-        works,
-    }
+        &tables.next1,
+        &tables.side1,
+        &tables.next3,
+        &tables.other3,
+        &tables.parent,
+        &tables.cells,
+        &tables.borders,
+        depths,
+        holes,
+        &mut works.a,
+        &mut works.b,
+        &mut works.c,
+        &mut works.d,
+    )
 }
 
 // Two tables that were filled, in full or by their sums; of a refusal, whether the two are as they were.
 fn show_filled<W: Write>(
     out: &mut W,
-    m: usize,
-    h: usize,
     full: bool,
-    filled: &Filled,
+    answer: Result<(), Refusal>,
+    first: &[u16],
+    second: &[u16],
 ) -> io::Result<()> {
-    if filled.answer.is_err() {
-        show::kept(out, tables::untouched(&filled.first))?;
-        return show::kept(out, tables::untouched(&filled.second));
+    if answer.is_err() {
+        show::kept(out, tables::untouched(first))?;
+        return show::kept(out, tables::untouched(second));
     }
-    let first = tables::front(&filled.first, m);
-    let second = tables::front(&filled.second, h);
     if full {
         return show_each(out, first, second);
     }
@@ -147,178 +117,168 @@ fn show_filled<W: Write>(
     show::table(out, second, false)
 }
 
-// What the counts of all names answer, in two tables of a length each.
+// What the counts of all names answer, in two tables of a length each, with work tables of these lengths.
 pub(crate) fn counts<W: Write>(
+    alloc: Global,
     out: &mut W,
     size: Size,
     full: bool,
     m: usize,
     h: usize,
-    lengths: Lengths,
+    lengths: WorkLengths,
     tables: &Tables,
-) -> io::Result<()>
-    requires { Fits lengths × (m ≤ room) × (h ≤ room) }
-{
-    let filled = counts_of(size, m, h, lengths, tables);
+) -> io::Result<()> {
+    let mut depths = vec![in alloc; lent::UNTOUCHED; m]?;
+    let mut holes = vec![in alloc; lent::UNTOUCHED; h]?;
+    let mut works = Works::untouched(alloc, lengths)?;
+    let answer = counts_of(size, tables, &mut depths, &mut holes, &mut works);
     show::text(out, b"counts")?;
-    show::number(out, answer::number(filled.answer))?;
-    show_filled(out, m, h, full, &filled)?;
-    show_end(out, filled.answer, lengths, &filled.works)
+    show::number(out, answer::number(answer))?;
+    show_filled(out, full, answer, &depths, &holes)?;
+    show_end(out, answer, &works)
 }
 
-// Counts the turns of the curves of tables of these lengths, into two tables as long as that of level 1 next, with work tables
-// that are not clear.
-fn turns_of(size: Size, lengths: Lengths, tables: &Tables) -> Filled
-    requires { Fits lengths }
-{
-    let n = lengths.next1;
-    let mut right = [lent::UNTOUCHED; lent::ROOM];
-    let mut left = [lent::UNTOUCHED; lent::ROOM];
-    let mut works = Works::untouched();
-    let answer = turns::turns(
+// Counts the turns of the curves of seven tables into two tables, with work tables.
+fn turns_of(
+    size: Size,
+    tables: &Tables,
+    right: &mut [u16],
+    left: &mut [u16],
+    works: &mut Works,
+) -> Result<(), Refusal> {
+    turns::turns(
         size.width,
         size.height,
-        &tables.next1[..lengths.next1],
-        &tables.side1[..lengths.side1],
-        &tables.next3[..lengths.next3],
-        &tables.other3[..lengths.other3],
-        &tables.parent[..lengths.parent],
-        &tables.cells[..lengths.cells],
-        &tables.borders[..lengths.borders],
-        &mut right[..n],
-        &mut left[..n],
-        &mut works.a[..lengths.works.a],
-        &mut works.b[..lengths.works.b],
-        &mut works.c[..lengths.works.c],
-        &mut works.d[..lengths.works.d],
-    );
-    Filled {
-        answer,
-        first: right,
-        second: left,
-        works,
-    }
+        &tables.next1,
+        &tables.side1,
+        &tables.next3,
+        &tables.other3,
+        &tables.parent,
+        &tables.cells,
+        &tables.borders,
+        right,
+        left,
+        &mut works.a,
+        &mut works.b,
+        &mut works.c,
+        &mut works.d,
+    )
 }
 
 // What the turns of the curves answer: each dart of level 3 with its right turns and its left turns, in two tables as long as that
-// of level 1 next.
+// of level 1 next, with work tables of these lengths.
 pub(crate) fn turns<W: Write>(
+    alloc: Global,
     out: &mut W,
     size: Size,
-    lengths: Lengths,
+    lengths: WorkLengths,
     tables: &Tables,
-) -> io::Result<()>
-    requires { Fits lengths }
-{
-    let n = lengths.next1;
-    let filled = turns_of(size, lengths, tables);
+) -> io::Result<()> {
+    let n = tables.next1.len();
+    let mut right = vec![in alloc; lent::UNTOUCHED; n]?;
+    let mut left = vec![in alloc; lent::UNTOUCHED; n]?;
+    let mut works = Works::untouched(alloc, lengths)?;
+    let answer = turns_of(size, tables, &mut right, &mut left, &mut works);
     show::text(out, b"turns")?;
-    show::number(out, answer::number(filled.answer))?;
-    show_filled(out, n, n, true, &filled)?;
-    show_end(out, filled.answer, lengths, &filled.works)
+    show::number(out, answer::number(answer))?;
+    show_filled(out, true, answer, &right, &left)?;
+    show_end(out, answer, &works)
 }
 
-// Asks for the depth of a name in tables of these lengths, with work tables that are not clear.
-fn depth_of(size: Size, name: u16, lengths: Lengths, tables: &Tables) -> Answered<u16>
-    requires { Fits lengths }
-{
-    let mut works = Works::untouched();
-    let answer = count::depth(
+// Asks for the depth of a name in seven tables, with work tables.
+fn depth_of(size: Size, name: u16, tables: &Tables, works: &mut Works) -> Result<u16, Refusal> {
+    count::depth(
         size.width,
         size.height,
-        &tables.next1[..lengths.next1],
-        &tables.side1[..lengths.side1],
-        &tables.next3[..lengths.next3],
-        &tables.other3[..lengths.other3],
-        &tables.parent[..lengths.parent],
-        &tables.cells[..lengths.cells],
-        &tables.borders[..lengths.borders],
+        &tables.next1,
+        &tables.side1,
+        &tables.next3,
+        &tables.other3,
+        &tables.parent,
+        &tables.cells,
+        &tables.borders,
         name,
-        &mut works.a[..lengths.works.a],
-        &mut works.b[..lengths.works.b],
-        &mut works.c[..lengths.works.c],
-        &mut works.d[..lengths.works.d],
-    );
-    Answered { answer, works }
+        &mut works.a,
+        &mut works.b,
+        &mut works.c,
+        &mut works.d,
+    )
 }
 
-// Asks for the hole count of a name in tables of these lengths, with work tables that are not clear.
-fn holes_of(size: Size, name: u16, lengths: Lengths, tables: &Tables) -> Answered<u16>
-    requires { Fits lengths }
-{
-    let mut works = Works::untouched();
-    let answer = count::holes(
+// Asks for the hole count of a name in seven tables, with work tables.
+fn holes_of(size: Size, name: u16, tables: &Tables, works: &mut Works) -> Result<u16, Refusal> {
+    count::holes(
         size.width,
         size.height,
-        &tables.next1[..lengths.next1],
-        &tables.side1[..lengths.side1],
-        &tables.next3[..lengths.next3],
-        &tables.other3[..lengths.other3],
-        &tables.parent[..lengths.parent],
-        &tables.cells[..lengths.cells],
-        &tables.borders[..lengths.borders],
+        &tables.next1,
+        &tables.side1,
+        &tables.next3,
+        &tables.other3,
+        &tables.parent,
+        &tables.cells,
+        &tables.borders,
         name,
-        &mut works.a[..lengths.works.a],
-        &mut works.b[..lengths.works.b],
-        &mut works.c[..lengths.works.c],
-        &mut works.d[..lengths.works.d],
-    );
-    Answered { answer, works }
+        &mut works.a,
+        &mut works.b,
+        &mut works.c,
+        &mut works.d,
+    )
 }
 
 // Writes the number of an answer, the count where there is one, and how the work tables are left.
 fn show_counted<W: Write>(
     out: &mut W,
-    lengths: Lengths,
-    counted: &Answered<u16>,
+    answer: Result<u16, Refusal>,
+    works: &Works,
 ) -> io::Result<()> {
-    show::number(out, answer::number(counted.answer))?;
-    if let Ok(count) = counted.answer {
+    show::number(out, answer::number(answer))?;
+    if let Ok(count) = answer {
         show::number(out, count)?;
     }
-    show_end(out, counted.answer, lengths, &counted.works)
+    show_end(out, answer, works)
 }
 
-// What the depth of a name answers.
+// What the depth of a name answers, with work tables of these lengths.
 pub(crate) fn depth<W: Write>(
+    alloc: Global,
     out: &mut W,
     size: Size,
     name: u16,
-    lengths: Lengths,
+    lengths: WorkLengths,
     tables: &Tables,
-) -> io::Result<()>
-    requires { Fits lengths }
-{
+) -> io::Result<()> {
+    let mut works = Works::untouched(alloc, lengths)?;
+    let answer = depth_of(size, name, tables, &mut works);
     show::text(out, b"depth")?;
-    show_counted(out, lengths, &depth_of(size, name, lengths, tables))
+    show_counted(out, answer, &works)
 }
 
-// What the hole count of a name answers.
+// What the hole count of a name answers, with work tables of these lengths.
 pub(crate) fn holes<W: Write>(
+    alloc: Global,
     out: &mut W,
     size: Size,
     name: u16,
-    lengths: Lengths,
+    lengths: WorkLengths,
     tables: &Tables,
-) -> io::Result<()>
-    requires { Fits lengths }
-{
+) -> io::Result<()> {
+    let mut works = Works::untouched(alloc, lengths)?;
+    let answer = holes_of(size, name, tables, &mut works);
     show::text(out, b"holes")?;
-    show_counted(out, lengths, &holes_of(size, name, lengths, tables))
+    show_counted(out, answer, &works)
 }
 
-// Writes a name with its depth and its hole count, each asked for, where it has them.
+// Writes a name with its depth and its hole count, each asked for with work tables of these lengths, where it has them.
 fn name<W: Write>(
+    alloc: Global,
     out: &mut W,
     size: Size,
     name: u16,
-    lengths: Lengths,
+    lengths: WorkLengths,
     tables: &Tables,
-) -> io::Result<()>
-    requires { Fits lengths }
-{
-    let depth = depth_of(size, name, lengths, tables).answer;
-    let holes = holes_of(size, name, lengths, tables).answer;
+) -> io::Result<()> {
+    let depth = depth_of(size, name, tables, &mut Works::untouched(alloc, lengths)?);
+    let holes = holes_of(size, name, tables, &mut Works::untouched(alloc, lengths)?);
     show_one(
         out,
         name,
@@ -329,16 +289,15 @@ fn name<W: Write>(
 
 // Writes each name that has a depth and a hole count, asked for one by one.
 pub(crate) fn names<W: Write>(
+    alloc: Global,
     out: &mut W,
     size: Size,
-    lengths: Lengths,
+    lengths: WorkLengths,
     tables: &Tables,
-) -> io::Result<()>
-    requires { Fits lengths }
-{
+) -> io::Result<()> {
     show::text(out, b"names")?;
     for i in 0..lent::names(size.width, size.height) {
-        name(out, size, i, lengths, tables)?;
+        name(alloc, out, size, i, lengths, tables)?;
     }
     show::line_end(out)
 }

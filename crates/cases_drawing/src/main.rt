@@ -22,9 +22,10 @@ use case_files::{cases, text};
 use std::io;
 
 fn main(rt: HostRuntime) -> io::Result<()> {
+    let alloc = rt.alloc();
     cases::run(&rt, |out, kind, text| {
         let mut values = text::room();
         let n = text::numbers(text, &mut values);
-        tried::run(out, kind, &values[..n])
+        tried::run(alloc, out, kind, &values[..n])
     })
 }

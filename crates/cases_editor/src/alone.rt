@@ -1,11 +1,10 @@
-ghost use Rattle.case_sheets.specs.Room.{Fits};
-
 use crate::mixture;
 use crate::mixture::Left;
 use case_sheets::lengths::{Lengths, Size};
 use case_sheets::lent;
 use case_tables::show;
 use point_darts::dart;
+use std::alloc::Global;
 use std::io;
 use std::io::Write;
 use table_entries::entry;
@@ -66,9 +65,9 @@ fn show_cells<W: Write>(
 // What the tables by name say of a region.
 fn region_of(left: &Left, name: u16) -> Region {
     Region {
-        present: entry::get(&left.parent, name) != dart::MARK,
-        cells: entry::get(&left.cells, name),
-        borders: entry::get(&left.borders, name),
+        present: entry::get(&left.tables.parent, name) != dart::MARK,
+        cells: entry::get(&left.tables.cells, name),
+        borders: entry::get(&left.tables.borders, name),
     }
 }
 
@@ -102,6 +101,7 @@ fn show_regions<W: Write>(
 // Makes the calls of one editor alone, and writes what they answer, and the cells and totals of the editor's regions after them;
 // and of each whether it is so among the other's calls, given what those of both leave.
 pub(crate) fn show<W: Write>(
+    alloc: Global,
     out: &mut W,
     size: Size,
     sheet: &[u16],
@@ -110,11 +110,9 @@ pub(crate) fn show<W: Write>(
     editor: u16,
     lengths: Lengths,
     among: &Left,
-) -> io::Result<()>
-    requires { Fits lengths }
-{
+) -> io::Result<()> {
     write!(out, "alone {editor}")?;
-    let left = mixture::left_by(out, size, sheet, owners, calls, editor, lengths)?;
+    let left = mixture::left_by(alloc, out, size, sheet, owners, calls, editor, lengths)?;
     show::same(
         out,
         same_replies(calls, editor, &left.replies, &among.replies),

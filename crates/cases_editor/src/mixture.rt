@@ -1,14 +1,14 @@
 ghost use Rattle.std.specs.Prelude.{◌≡◌, ◌≤◌, ◌<◌, length};
-ghost use Rattle.case_sheets.specs.Room.{Fits};
 
 use crate::one::Call;
 use crate::{one, started};
-use case_sheets::lengths::{Lengths, Size};
+use case_sheets::lengths::{Lengths, Size, WorkLengths};
 use case_sheets::{lent, made};
 use case_tables::tables;
 use case_tables::tables::Tables;
 use point_darts::dart;
 use point_darts::dart::Dart;
+use std::alloc::Global;
 use std::io;
 use std::io::Write;
 use table_entries::entry;
@@ -16,14 +16,12 @@ use table_entries::entry;
 // In place of an editor's number: the calls of both, and those with any other number.
 pub const ALL: u16 = 0;
 
-// What some calls leave: the reply to each at its place, the region of each cell, and the tables by name.
-#[derive(Clone, Copy)]
+// What some calls leave: the reply to each at its place, the region of each cell, and the tables.
+#[derive(Drop)]
 pub struct Left {
     pub replies: [u16; 8192],
     pub regions: [u16; 8192],
-    pub parent: [u16; 8192],
-    pub cells: [u16; 8192],
-    pub borders: [u16; 8192],
+    pub tables: Tables,
 }
 
 // How many calls a list has, at most 20,000.
@@ -52,22 +50,21 @@ fn is_made(editor: u16, whose: u16) -> bool {
 // Makes the calls of one editor, or all of a list, one after another in a drawing, and writes what each answers. The replies come
 // to stand at the places of their calls.
 fn make<W: Write>(
+    alloc: Global,
     out: &mut W,
     size: Size,
     owners: &[u16],
     calls: &[u16],
     whose: u16,
-    lengths: Lengths,
+    lengths: WorkLengths,
     tables: &mut Tables,
     replies: &mut [u16],
-) -> io::Result<()>
-    requires { Fits lengths }
-{
+) -> io::Result<()> {
     let count = count_of(calls);
     for place in 0..count {
         let call = call_at(calls, place);
         if is_made(call.editor, whose) {
-            let number = one::join_shown(out, size, owners, call, lengths, tables)?;
+            let number = one::join_shown(alloc, out, size, owners, call, lengths, tables)?;
             entry::put(replies, place, number);
         }
     }
@@ -114,18 +111,10 @@ fn regions_of(size: Size, side1: &[u16]) -> [u16; 8192]
     regions
 }
 
-// The entries at the front of a table.
-fn front(table: &[u16; lent::ROOM]) -> [u16; 8192]
-    ensures { 8192 ≡ length result }
-{
-    let mut entries = made::room();
-    lent::copy(table, &mut entries);
-    entries
-}
-
 // Makes the calls of one editor, or all of a list, in a drawing that is started, and writes what each answers; where all are made
 // also the tables after them. Gives what they leave.
 pub(crate) fn left_by<W: Write>(
+    alloc: Global,
     out: &mut W,
     size: Size,
     sheet: &[u16],
@@ -133,33 +122,27 @@ pub(crate) fn left_by<W: Write>(
     calls: &[u16],
     whose: u16,
     lengths: Lengths,
-) -> io::Result<Left>
-    requires { Fits lengths }
-{
+) -> io::Result<Left> {
     let mut replies = made::room();
-    let mut tables = started::tables(size, sheet, owners, lengths);
+    let mut tables = started::tables(alloc, size, sheet, owners, lengths)?;
     make(
+        alloc,
         out,
         size,
         owners,
         calls,
         whose,
-        lengths,
+        lengths.works,
         &mut tables,
         &mut replies,
     )?;
     if whose == ALL {
-        tables::show(out, lengths, &tables, true)?;
+        tables::show(out, &tables, true)?;
     }
-    let regions = regions_of(size, tables::front(&tables.side1, lengths.side1));
-    let parent = front(&tables.parent);
-    let cells = front(&tables.cells);
-    let borders = front(&tables.borders);
+    let regions = regions_of(size, &tables.side1);
     Ok(Left {
         replies,
         regions,
-        parent,
-        cells,
-        borders,
+        tables,
     })
 }

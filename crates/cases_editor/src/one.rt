@@ -1,8 +1,8 @@
-ghost use Rattle.case_sheets.specs.Room.{Fits};
-
-use case_sheets::lengths::{Lengths, Size};
+use answer::Refusal;
+use case_sheets::lengths::{Size, WorkLengths};
 use case_tables::tables;
-use case_tables::tables::{Answered, Tables, Works};
+use case_tables::tables::{Tables, Works};
+use std::alloc::Global;
 use std::io;
 use std::io::Write;
 
@@ -14,52 +14,49 @@ pub struct Call {
     pub second: u16,
 }
 
-// Joins as an editor in tables of these lengths, with work tables that are not clear.
-fn join(size: Size, owners: &[u16], call: Call, lengths: Lengths, tables: &Tables) -> Answered
-    requires { Fits lengths }
-{
-    let mut tables = *tables;
-    let mut works = Works::untouched();
-    let answer = editor_call::join::join(
+// Joins as an editor in seven tables, with work tables.
+fn join(
+    size: Size,
+    owners: &[u16],
+    call: Call,
+    tables: &mut Tables,
+    works: &mut Works,
+) -> Result<(), Refusal> {
+    editor_call::join::join(
         size.width,
         size.height,
-        &mut tables.next1[..lengths.next1],
-        &mut tables.side1[..lengths.side1],
-        &mut tables.next3[..lengths.next3],
-        &mut tables.other3[..lengths.other3],
-        &mut tables.parent[..lengths.parent],
-        &mut tables.cells[..lengths.cells],
-        &mut tables.borders[..lengths.borders],
+        &mut tables.next1,
+        &mut tables.side1,
+        &mut tables.next3,
+        &mut tables.other3,
+        &mut tables.parent,
+        &mut tables.cells,
+        &mut tables.borders,
         owners,
         call.editor,
         call.first,
         call.second,
-        &mut works.a[..lengths.works.a],
-        &mut works.b[..lengths.works.b],
-        &mut works.c[..lengths.works.c],
-        &mut works.d[..lengths.works.d],
-    );
-    Answered {
-        answer,
-        tables,
-        works,
-    }
+        &mut works.a,
+        &mut works.b,
+        &mut works.c,
+        &mut works.d,
+    )
 }
 
-// Joins as an editor and writes what is answered: its number, of a refusal whether the seven tables are as they were, and how the
-// work tables are left. Gives the number.
+// Joins as an editor, with work tables of these lengths, and writes what is answered: its number, of a refusal whether the seven
+// tables are as they were, and how the work tables are left. Gives the number.
 pub(crate) fn join_shown<W: Write>(
+    alloc: Global,
     out: &mut W,
     size: Size,
     owners: &[u16],
     call: Call,
-    lengths: Lengths,
+    lengths: WorkLengths,
     tables: &mut Tables,
-) -> io::Result<u16>
-    requires { Fits lengths }
-{
-    let joined = join(size, owners, call, lengths, tables);
-    tables::show_joined(out, lengths, tables, &joined)?;
-    *tables = joined.tables;
-    Ok(answer::number(joined.answer))
+) -> io::Result<u16> {
+    let before = tables.clone()?;
+    let mut works = Works::untouched(alloc, lengths)?;
+    let answer = join(size, owners, call, tables, &mut works);
+    tables::show_joined(out, answer, &before, tables, &works)?;
+    Ok(answer::number(answer))
 }

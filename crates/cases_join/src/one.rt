@@ -1,77 +1,66 @@
-ghost use Rattle.case_sheets.specs.Room.{Fits};
-
-use case_sheets::lengths::{Lengths, Size};
+use answer::Refusal;
+use case_sheets::lengths::{Size, WorkLengths};
 use case_tables::tables;
-use case_tables::tables::{Answered, Tables, Works};
+use case_tables::tables::{Tables, Works};
 use join_call::regions;
+use std::alloc::Global;
 use std::io;
 use std::io::Write;
 
-// Joins two names in tables of these lengths, with work tables that are not clear.
+// Joins two names in seven tables, with work tables.
 pub(crate) fn join(
     size: Size,
     first: u16,
     second: u16,
-    lengths: Lengths,
-    tables: &Tables,
-) -> Answered
-    requires { Fits lengths }
-{
-    let mut tables = *tables;
-    let mut works = Works::untouched();
-    let answer = regions::join(
+    tables: &mut Tables,
+    works: &mut Works,
+) -> Result<(), Refusal> {
+    regions::join(
         size.width,
         size.height,
-        &mut tables.next1[..lengths.next1],
-        &mut tables.side1[..lengths.side1],
-        &mut tables.next3[..lengths.next3],
-        &mut tables.other3[..lengths.other3],
-        &mut tables.parent[..lengths.parent],
-        &mut tables.cells[..lengths.cells],
-        &mut tables.borders[..lengths.borders],
+        &mut tables.next1,
+        &mut tables.side1,
+        &mut tables.next3,
+        &mut tables.other3,
+        &mut tables.parent,
+        &mut tables.cells,
+        &mut tables.borders,
         first,
         second,
-        &mut works.a[..lengths.works.a],
-        &mut works.b[..lengths.works.b],
-        &mut works.c[..lengths.works.c],
-        &mut works.d[..lengths.works.d],
-    );
-    Answered {
-        answer,
-        tables,
-        works,
-    }
+        &mut works.a,
+        &mut works.b,
+        &mut works.c,
+        &mut works.d,
+    )
 }
 
-// Joins two names and writes what is answered.
+// Joins two names, with work tables of these lengths, and writes what is answered.
 fn join_shown<W: Write>(
+    alloc: Global,
     out: &mut W,
     size: Size,
     first: u16,
     second: u16,
-    lengths: Lengths,
+    lengths: WorkLengths,
     tables: &mut Tables,
-) -> io::Result<()>
-    requires { Fits lengths }
-{
-    let joined = join(size, first, second, lengths, tables);
-    tables::show_joined(out, lengths, tables, &joined)?;
-    *tables = joined.tables;
-    Ok(())
+) -> io::Result<()> {
+    let before = tables.clone()?;
+    let mut works = Works::untouched(alloc, lengths)?;
+    let answer = join(size, first, second, tables, &mut works);
+    tables::show_joined(out, answer, &before, tables, &works)
 }
 
 // Joins the names of a list, two by two.
 pub(crate) fn join_all<W: Write>(
+    alloc: Global,
     out: &mut W,
     size: Size,
     names: &[u16],
-    lengths: Lengths,
+    lengths: WorkLengths,
     tables: &mut Tables,
-) -> io::Result<()>
-    requires { Fits lengths }
-{
+) -> io::Result<()> {
     for pair in names.chunks_exact(2) {
-        join_shown(out, size, pair[0], pair[1], lengths, tables)?;
+        join_shown(alloc, out, size, pair[0], pair[1], lengths, tables)?;
     }
     Ok(())
 }

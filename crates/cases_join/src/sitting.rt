@@ -1,14 +1,14 @@
 ghost use Rattle.std.specs.Prelude.{◌+◌, ◌≤◌, ◌<◌, IfOk};
-ghost use Rattle.case_sheets.specs.Room.{Fits};
 
 use crate::one;
 use answer::Refusal;
 use case_sheets::lengths::{Lengths, Size};
 use case_sheets::lent;
-use case_tables::tables::Tables;
+use case_tables::tables::{Tables, Works};
 use case_tables::{show, tables};
 use point_darts::dart;
 use point_darts::dart::Dart;
+use std::alloc::{AllocError, Global};
 use std::io;
 use std::io::Write;
 use table_entries::entry;
@@ -67,23 +67,34 @@ fn regions_left(parent: &[u16]) -> u16 {
     count.min(65535) as u16
 }
 
+// The tables of these lengths that drawing a sheet leaves.
+pub(crate) fn drawn(
+    alloc: Global,
+    size: Size,
+    sheet: &[u16],
+    lengths: Lengths,
+) -> Result<Tables, AllocError> {
+    let mut tables = Tables::untouched(alloc, lengths)?;
+    let mut works = Works::untouched(alloc, lengths.works)?;
+    let _ = case_drawing::draw(size, sheet, &mut tables, &mut works);
+    Ok(tables)
+}
+
 // Writes how a sitting stands: how many joins were done, how many regions are left, whether the tables are those drawn
 // afresh, and their sums.
 fn show_standing<W: Write>(
+    alloc: Global,
     out: &mut W,
     size: Size,
     lengths: Lengths,
     names: &[u16],
     done: u64,
     tables: &Tables,
-) -> io::Result<()>
-    requires { Fits lengths }
-{
-    let left = regions_left(tables::front(&tables.parent, lengths.parent));
+) -> io::Result<()> {
+    let left = regions_left(&tables.parent);
     write!(out, "\nsitting {done} {left}")?;
-    let fresh = case_drawing::draw(size, names, lengths);
-    show::same(out, *tables == fresh.tables)?;
-    tables::show(out, lengths, tables, false)
+    show::same(out, *tables == drawn(alloc, size, names, lengths)?)?;
+    tables::show(out, tables, false)
 }
 
 // Whether a join was done, and so many joins are a multiple of a number.
@@ -121,30 +132,28 @@ fn stride_on(number: u16, stride: u16, slots: u16) -> u16 {
 // A sitting over a drawing: every slot is visited, each a stride after the one before, and the regions on the two sides
 // of its dart are joined.
 pub(crate) fn sit<W: Write>(
+    alloc: Global,
     out: &mut W,
     size: Size,
     lengths: Lengths,
     pace: Pace,
     names: &mut [u16],
     tables: &mut Tables,
-) -> io::Result<()>
-    requires { Fits lengths }
-{
+) -> io::Result<()> {
     let slots = lent::slots(size.width, size.height);
     let mut done: u64 = 0;
     let mut number: u16 = 0;
     for _ in 0..slots {
-        let side1 = tables::front(&tables.side1, lengths.side1);
-        let sides = sides_of(size, side1, number);
+        let sides = sides_of(size, &tables.side1, number);
         number = stride_on(number, pace.stride, slots);
         if are_regions(sides) {
-            let joined = one::join(size, sides.right, sides.left, lengths, tables);
-            *tables = joined.tables;
-            done = counted_on(out, joined.answer, sides, names, done)?;
-            if is_due(joined.answer, done, pace.every) {
-                show_standing(out, size, lengths, names, done, tables)?;
+            let mut works = Works::untouched(alloc, lengths.works)?;
+            let answer = one::join(size, sides.right, sides.left, tables, &mut works);
+            done = counted_on(out, answer, sides, names, done)?;
+            if is_due(answer, done, pace.every) {
+                show_standing(alloc, out, size, lengths, names, done, tables)?;
             }
         }
     }
-    show_standing(out, size, lengths, names, done, tables)
+    show_standing(alloc, out, size, lengths, names, done, tables)
 }

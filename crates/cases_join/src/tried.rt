@@ -1,22 +1,26 @@
-ghost use Rattle.case_sheets.specs.Room.{Fits};
-
 use crate::sitting::Pace;
 use crate::{listed, one, sitting};
-use case_sheets::lengths::{Lengths, Size};
+use case_sheets::lengths::{Lengths, Size, WorkLengths};
 use case_sheets::{lengths, lent, made};
 use case_tables::tables::Tables;
 use case_tables::{show, tables};
+use std::alloc::Global;
 use std::io;
 use std::io::Write;
 use table_entries::entry;
 
 // Joins two names in seven tables that a case gives.
-fn join_given<W: Write>(out: &mut W, size: Size, values: &[u16], lengths: Lengths) -> io::Result<()>
-    requires { Fits lengths }
-{
+fn join_given<W: Write>(
+    alloc: Global,
+    out: &mut W,
+    size: Size,
+    values: &[u16],
+    lengths: Lengths,
+) -> io::Result<()> {
     let list = lent::from(values, 2);
-    let mut tables = tables::given(list, lent::from(list, 11));
-    one::join_all(out, size, lent::part(values, 0, 2), lengths, &mut tables)
+    let mut tables = tables::of_list(alloc, lengths, lent::from(list, 11))?;
+    let names = lent::part(values, 0, 2);
+    one::join_all(alloc, out, size, names, lengths.works, &mut tables)
 }
 
 // The place after the list that a case starts with: its count, and its names.
@@ -25,33 +29,37 @@ fn list_end(values: &[u16]) -> usize {
 }
 
 // Joins by a list in seven tables that a case gives.
-fn list_given<W: Write>(out: &mut W, size: Size, values: &[u16], lengths: Lengths) -> io::Result<()>
-    requires { Fits lengths }
-{
+fn list_given<W: Write>(
+    alloc: Global,
+    out: &mut W,
+    size: Size,
+    values: &[u16],
+    lengths: Lengths,
+) -> io::Result<()> {
     let end = list_end(values);
     let list = lent::from(values, end);
-    let mut tables = tables::given(list, lent::from(list, 11));
-    listed::join_shown(out, size, lent::part(values, 1, end), lengths, &mut tables)
+    let mut tables = tables::of_list(alloc, lengths, lent::from(list, 11))?;
+    let names = lent::part(values, 1, end);
+    listed::join_shown(alloc, out, size, names, lengths.works, &mut tables)
 }
 
 // Joins the names of a case in its drawing, and writes the seven tables where they are asked for.
 fn join_names<W: Write>(
+    alloc: Global,
     out: &mut W,
     kind: u8,
     size: Size,
     names: &[u16],
-    lengths: Lengths,
+    lengths: WorkLengths,
     tables: &mut Tables,
-) -> io::Result<()>
-    requires { Fits lengths }
-{
+) -> io::Result<()> {
     if kind == b'L' {
-        listed::join_shown(out, size, names, lengths, tables)?;
-        return tables::show(out, lengths, tables, true);
+        listed::join_shown(alloc, out, size, names, lengths, tables)?;
+        return tables::show(out, tables, true);
     }
-    one::join_all(out, size, names, lengths, tables)?;
+    one::join_all(alloc, out, size, names, lengths, tables)?;
     if kind == b'T' {
-        tables::show(out, lengths, tables, true)?;
+        tables::show(out, tables, true)?;
     }
     Ok(())
 }
@@ -66,33 +74,31 @@ fn pace_of(values: &[u16]) -> Pace {
 
 // Goes through a case with tables of these lengths.
 fn go<W: Write>(
+    alloc: Global,
     out: &mut W,
     kind: u8,
     size: Size,
     sheet: &mut [u16],
     values: &[u16],
     lengths: Lengths,
-) -> io::Result<()>
-    requires { Fits lengths }
-{
+) -> io::Result<()> {
     if kind == b'J' {
-        return join_given(out, size, values, lengths);
+        return join_given(alloc, out, size, values, lengths);
     }
     if kind == b'M' {
-        return list_given(out, size, values, lengths);
+        return list_given(alloc, out, size, values, lengths);
     }
-    let mut tables = case_drawing::draw(size, sheet, lengths).tables;
+    let mut tables = sitting::drawn(alloc, size, sheet, lengths)?;
     if kind == b'D' {
-        return sitting::sit(out, size, lengths, pace_of(values), sheet, &mut tables);
+        let pace = pace_of(values);
+        return sitting::sit(alloc, out, size, lengths, pace, sheet, &mut tables);
     }
     let names = lent::from(values, sheet.len());
-    join_names(out, kind, size, names, lengths, &mut tables)
+    join_names(alloc, out, kind, size, names, lengths.works, &mut tables)
 }
 
 // The lengths of the tables of a case: those that it gives with its tables, else the stated ones.
-fn lengths_of(kind: u8, size: Size, values: &[u16]) -> Lengths
-    ensures { Fits result }
-{
+fn lengths_of(kind: u8, size: Size, values: &[u16]) -> Lengths {
     match kind {
         b'J' => lengths::given(lent::from(values, 2)),
         b'M' => lengths::given(lent::from(values, list_end(values))),
@@ -101,7 +107,12 @@ fn lengths_of(kind: u8, size: Size, values: &[u16]) -> Lengths
 }
 
 // Runs a case.
-pub(crate) fn run<W: Write>(out: &mut W, kind: u8, values: &[u16]) -> io::Result<()> {
+pub(crate) fn run<W: Write>(
+    alloc: Global,
+    out: &mut W,
+    kind: u8,
+    values: &[u16],
+) -> io::Result<()> {
     let size = Size {
         width: entry::get(values, 0),
         height: entry::get(values, 1),
@@ -111,6 +122,7 @@ pub(crate) fn run<W: Write>(out: &mut W, kind: u8, values: &[u16]) -> io::Result
     let n = made::sheet(kind, size.width, size.height, rest, &mut sheet);
     show::text(out, b"join")?;
     go(
+        alloc,
         out,
         kind,
         size,

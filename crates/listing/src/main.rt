@@ -51,6 +51,7 @@ struct Turned {
 }
 
 // How many cells a sheet has.
+#[tactic(auto, using(point_darts::proofs::Fit::cells_fit))]
 fn cells_of(size: Size) -> usize
     ensures { (result ≡ size.width * size.height) × (result ≤ widest * tallest) }
 {
