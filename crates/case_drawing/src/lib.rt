@@ -3,14 +3,14 @@
 
 use answer::Refusal;
 use case_sheets::lengths::Size;
-use case_tables::tables::{Tables, Works};
+use case_tables::tables::{HeldTables, HeldWorks};
 
 // Draws a sheet into seven tables, with work tables.
 pub fn draw(
     size: Size,
     sheet: &[u16],
-    tables: &mut Tables,
-    works: &mut Works,
+    tables: &mut HeldTables,
+    works: &mut HeldWorks,
 ) -> Result<(), Refusal> {
     drawing::draw::draw(
         size.width,

@@ -71,9 +71,13 @@ pub fn copy(table: &[u16], to: &mut [u16]) {
     }
 }
 
-// Whether each entry is a value.
+// Whether each entry is a value. It goes to the end: a chain by `all` takes more than twice as long.
 pub fn all_are(table: &[u16], value: u16) -> bool {
-    table.iter().all(|entry| *entry == value)
+    let mut all = true;
+    for entry in table {
+        all = all & (*entry == value);
+    }
+    all
 }
 
 // A sum with one entry more.

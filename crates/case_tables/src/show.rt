@@ -35,22 +35,22 @@ pub fn table<W: Write>(out: &mut W, table: &[u16], full: bool) -> io::Result<()>
     number(out, lent::sum(table))
 }
 
-// Writes a word where something holds, else another.
-fn word<W: Write>(out: &mut W, holds: bool, word: &str, other: &str) -> io::Result<()> {
-    write!(out, " {}", if holds { word } else { other })
+// Writes a text where something holds, else another, in one piece.
+fn either<W: Write>(out: &mut W, holds: bool, one: &[u8], other: &[u8]) -> io::Result<()> {
+    text(out, if holds { one } else { other })
 }
 
 // Writes whether what was lent is as it was.
 pub fn kept<W: Write>(out: &mut W, kept: bool) -> io::Result<()> {
-    word(out, kept, "kept", "changed")
+    either(out, kept, b" kept", b" changed")
 }
 
 // Writes whether the work tables are all 0.
 pub fn cleared<W: Write>(out: &mut W, cleared: bool) -> io::Result<()> {
-    word(out, cleared, "cleared", "uncleared")
+    either(out, cleared, b" cleared", b" uncleared")
 }
 
 // Writes whether something is the same as something else.
 pub fn same<W: Write>(out: &mut W, same: bool) -> io::Result<()> {
-    word(out, same, "same", "differs")
+    either(out, same, b" same", b" differs")
 }

@@ -1,14 +1,43 @@
 use crate::show;
 use answer::Refusal;
 use case_sheets::lengths::{Lengths, WorkLengths};
-use case_sheets::lent;
+use case_sheets::{lengths, lent};
 use std::alloc::{AllocError, Global};
 use std::io;
 use std::io::Write;
 
-// The seven tables of a drawing.
+// The seven tables of a drawing, which are held elsewhere.
+#[derive(Clone, Copy, PartialEq, Eq)]
+pub struct Tables<'a> {
+    pub next1: &'a [u16],
+    pub side1: &'a [u16],
+    pub next3: &'a [u16],
+    pub other3: &'a [u16],
+    pub parent: &'a [u16],
+    pub cells: &'a [u16],
+    pub borders: &'a [u16],
+}
+
+// Four work tables, which are held elsewhere.
+#[derive(Clone, Copy)]
+pub struct Works<'a> {
+    pub a: &'a [u16],
+    pub b: &'a [u16],
+    pub c: &'a [u16],
+    pub d: &'a [u16],
+}
+
+// What a call answered, and the tables after it.
+#[derive(Clone, Copy)]
+pub struct Answered<'a> {
+    pub answer: Result<(), Refusal>,
+    pub tables: Tables<'a>,
+    pub works: Works<'a>,
+}
+
+// The seven tables of a drawing that a program holds.
 #[derive(Clone, PartialEq, Eq, Drop)]
-pub struct Tables {
+pub struct HeldTables {
     pub next1: Vec<u16>,
     pub side1: Vec<u16>,
     pub next3: Vec<u16>,
@@ -18,19 +47,19 @@ pub struct Tables {
     pub borders: Vec<u16>,
 }
 
-// Four work tables.
+// Four work tables that a program holds.
 #[derive(Drop)]
-pub struct Works {
+pub struct HeldWorks {
     pub a: Vec<u16>,
     pub b: Vec<u16>,
     pub c: Vec<u16>,
     pub d: Vec<u16>,
 }
 
-impl Tables {
+impl HeldTables {
     // Tables of these lengths that no call has touched.
-    pub fn untouched(alloc: Global, lengths: Lengths) -> Result<Tables, AllocError> {
-        Ok(Tables {
+    pub fn untouched(alloc: Global, lengths: Lengths) -> Result<HeldTables, AllocError> {
+        Ok(HeldTables {
             next1: vec![in alloc; lent::UNTOUCHED; lengths.next1]?,
             side1: vec![in alloc; lent::UNTOUCHED; lengths.side1]?,
             next3: vec![in alloc; lent::UNTOUCHED; lengths.next3]?,
@@ -40,48 +69,86 @@ impl Tables {
             borders: vec![in alloc; lent::UNTOUCHED; lengths.borders]?,
         })
     }
+
+    // The tables.
+    pub fn tables(&self) -> Tables<'_> {
+        Tables {
+            next1: &self.next1,
+            side1: &self.side1,
+            next3: &self.next3,
+            other3: &self.other3,
+            parent: &self.parent,
+            cells: &self.cells,
+            borders: &self.borders,
+        }
+    }
 }
 
-impl Works {
+impl HeldWorks {
     // Work tables of these lengths that no call has touched, and that are not clear.
-    pub fn untouched(alloc: Global, lengths: WorkLengths) -> Result<Works, AllocError> {
-        Ok(Works {
+    pub fn untouched(alloc: Global, lengths: WorkLengths) -> Result<HeldWorks, AllocError> {
+        Ok(HeldWorks {
             a: vec![in alloc; lent::UNTOUCHED; lengths.a]?,
             b: vec![in alloc; lent::UNTOUCHED; lengths.b]?,
             c: vec![in alloc; lent::UNTOUCHED; lengths.c]?,
             d: vec![in alloc; lent::UNTOUCHED; lengths.d]?,
         })
     }
+
+    // The work tables.
+    pub fn works(&self) -> Works<'_> {
+        Works {
+            a: &self.a,
+            b: &self.b,
+            c: &self.c,
+            d: &self.d,
+        }
+    }
 }
 
-// The seven tables of these lengths that stand one after another in a list, or as much of them as it has.
-pub fn of_list(alloc: Global, lengths: Lengths, list: &[u16]) -> Result<Tables, AllocError> {
-    let mut tables = Tables::untouched(alloc, lengths)?;
+// The seven tables that stand one after another in a list, by their lengths, or as much of them as it has.
+pub fn given<'a>(lengths: &[u16], list: &'a [u16]) -> Tables<'a> {
+    let lengths = lengths::given(lengths);
     let side1 = lent::from(list, lengths.next1);
     let next3 = lent::from(side1, lengths.side1);
     let other3 = lent::from(next3, lengths.next3);
     let parent = lent::from(other3, lengths.other3);
     let cells = lent::from(parent, lengths.parent);
     let borders = lent::from(cells, lengths.cells);
-    lent::copy(list, &mut tables.next1);
-    lent::copy(side1, &mut tables.side1);
-    lent::copy(next3, &mut tables.next3);
-    lent::copy(other3, &mut tables.other3);
-    lent::copy(parent, &mut tables.parent);
-    lent::copy(cells, &mut tables.cells);
-    lent::copy(borders, &mut tables.borders);
+    Tables {
+        next1: lent::part(list, 0, lengths.next1),
+        side1: lent::part(side1, 0, lengths.side1),
+        next3: lent::part(next3, 0, lengths.next3),
+        other3: lent::part(other3, 0, lengths.other3),
+        parent: lent::part(parent, 0, lengths.parent),
+        cells: lent::part(cells, 0, lengths.cells),
+        borders: lent::part(borders, 0, lengths.borders),
+    }
+}
+
+// The same tables, held; what the list has not is as no call has touched it.
+pub fn of_list(alloc: Global, lengths: &[u16], list: &[u16]) -> Result<HeldTables, AllocError> {
+    let given = given(lengths, list);
+    let mut tables = HeldTables::untouched(alloc, lengths::given(lengths))?;
+    lent::copy(given.next1, &mut tables.next1);
+    lent::copy(given.side1, &mut tables.side1);
+    lent::copy(given.next3, &mut tables.next3);
+    lent::copy(given.other3, &mut tables.other3);
+    lent::copy(given.parent, &mut tables.parent);
+    lent::copy(given.cells, &mut tables.cells);
+    lent::copy(given.borders, &mut tables.borders);
     Ok(tables)
 }
 
 // Writes the seven tables of a drawing, in full or by their sums.
-pub fn show<W: Write>(out: &mut W, tables: &Tables, full: bool) -> io::Result<()> {
-    show::table(out, &tables.next1, full)?;
-    show::table(out, &tables.side1, full)?;
-    show::table(out, &tables.next3, full)?;
-    show::table(out, &tables.other3, full)?;
-    show::table(out, &tables.parent, full)?;
-    show::table(out, &tables.cells, full)?;
-    show::table(out, &tables.borders, full)
+pub fn show<W: Write>(out: &mut W, tables: Tables<'_>, full: bool) -> io::Result<()> {
+    show::table(out, tables.next1, full)?;
+    show::table(out, tables.side1, full)?;
+    show::table(out, tables.next3, full)?;
+    show::table(out, tables.other3, full)?;
+    show::table(out, tables.parent, full)?;
+    show::table(out, tables.cells, full)?;
+    show::table(out, tables.borders, full)
 }
 
 // Whether a table is as it was before a call.
@@ -90,55 +157,48 @@ pub fn untouched(table: &[u16]) -> bool {
 }
 
 // Whether seven tables are as they were before a call.
-pub fn all_untouched(tables: &Tables) -> bool {
-    untouched(&tables.next1)
-        & untouched(&tables.side1)
-        & untouched(&tables.next3)
-        & untouched(&tables.other3)
-        & untouched(&tables.parent)
-        & untouched(&tables.cells)
-        & untouched(&tables.borders)
+pub fn all_untouched(tables: Tables<'_>) -> bool {
+    untouched(tables.next1)
+        & untouched(tables.side1)
+        & untouched(tables.next3)
+        & untouched(tables.other3)
+        & untouched(tables.parent)
+        & untouched(tables.cells)
+        & untouched(tables.borders)
 }
 
 // Whether the work tables are as they were before a call.
-fn kept(works: &Works) -> bool {
-    untouched(&works.a) & untouched(&works.b) & untouched(&works.c) & untouched(&works.d)
+fn kept(works: Works<'_>) -> bool {
+    untouched(works.a) & untouched(works.b) & untouched(works.c) & untouched(works.d)
 }
 
 // Whether the work tables are all 0.
-fn cleared(works: &Works) -> bool {
-    lent::all_are(&works.a, 0)
-        & lent::all_are(&works.b, 0)
-        & lent::all_are(&works.c, 0)
-        & lent::all_are(&works.d, 0)
+fn cleared(works: Works<'_>) -> bool {
+    lent::all_are(works.a, 0)
+        & lent::all_are(works.b, 0)
+        & lent::all_are(works.c, 0)
+        & lent::all_are(works.d, 0)
 }
 
-// Writes whether the work tables of a call are as they were, where what was lent is refused, and else whether they are all 0.
-pub fn show_works<W: Write, T: Copy>(
-    out: &mut W,
-    answer: Result<T, Refusal>,
-    works: &Works,
-) -> io::Result<()> {
-    match answer {
-        Err(Refusal::Size | Refusal::Level | Refusal::Sheet | Refusal::Tables) => {
-            show::kept(out, kept(works))
-        }
-        _ => show::cleared(out, cleared(works)),
+// Writes whether the work tables of a call are as they were, for the refusals 1 to 4, and else whether they are all 0.
+pub fn show_works<W: Write>(out: &mut W, number: u16, works: Works<'_>) -> io::Result<()> {
+    if (1..=4).contains(&number) {
+        return show::kept(out, kept(works));
     }
+    show::cleared(out, cleared(works))
 }
 
 // Writes what a join answered: its number, of a refusal whether the seven tables are as they were before, and how the work tables
 // are left.
 pub fn show_joined<W: Write>(
     out: &mut W,
-    answer: Result<(), Refusal>,
-    before: &Tables,
-    tables: &Tables,
-    works: &Works,
+    before: Tables<'_>,
+    joined: Answered<'_>,
 ) -> io::Result<()> {
-    show::number(out, answer::number(answer))?;
-    if answer.is_err() {
-        show::kept(out, *before == *tables)?;
+    let number = answer::number(joined.answer);
+    show::number(out, number)?;
+    if joined.answer.is_err() {
+        show::kept(out, before == joined.tables)?;
     }
-    show_works(out, answer, works)
+    show_works(out, number, joined.works)
 }

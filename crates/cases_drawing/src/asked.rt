@@ -1,7 +1,7 @@
 use answer::Refusal;
 use case_sheets::lengths::{Size, WorkLengths};
 use case_sheets::lent;
-use case_tables::tables::{Tables, Works};
+use case_tables::tables::{HeldTables, HeldWorks};
 use case_tables::{show, tables};
 use check_call::check;
 use count_call::{count, turns};
@@ -11,7 +11,7 @@ use std::io;
 use std::io::Write;
 
 // Asks the check of seven tables, with work tables.
-fn check_of(size: Size, tables: &Tables, works: &mut Works) -> Result<(), Refusal> {
+fn check_of(size: Size, tables: &HeldTables, works: &mut HeldWorks) -> Result<(), Refusal> {
     check::check(
         size.width,
         size.height,
@@ -33,9 +33,9 @@ fn check_of(size: Size, tables: &Tables, works: &mut Works) -> Result<(), Refusa
 fn show_end<W: Write, T: Copy>(
     out: &mut W,
     answer: Result<T, Refusal>,
-    works: &Works,
+    works: &HeldWorks,
 ) -> io::Result<()> {
-    tables::show_works(out, answer, works)?;
+    tables::show_works(out, answer::number(answer), works.works())?;
     show::line_end(out)
 }
 
@@ -45,9 +45,9 @@ pub(crate) fn check<W: Write>(
     out: &mut W,
     size: Size,
     lengths: WorkLengths,
-    tables: &Tables,
+    tables: &HeldTables,
 ) -> io::Result<()> {
-    let mut works = Works::untouched(alloc, lengths)?;
+    let mut works = HeldWorks::untouched(alloc, lengths)?;
     let answer = check_of(size, tables, &mut works);
     show::text(out, b"check")?;
     show::number(out, answer::number(answer))?;
@@ -74,10 +74,10 @@ fn show_one<W: Write>(out: &mut W, place: u16, first: u16, second: u16) -> io::R
 // a parameter may have 12 arguments, and these have more.
 fn counts_of(
     size: Size,
-    tables: &Tables,
+    tables: &HeldTables,
     depths: &mut [u16],
     holes: &mut [u16],
-    works: &mut Works,
+    works: &mut HeldWorks,
 ) -> Result<(), Refusal> {
     count::counts(
         size.width,
@@ -126,11 +126,11 @@ pub(crate) fn counts<W: Write>(
     m: usize,
     h: usize,
     lengths: WorkLengths,
-    tables: &Tables,
+    tables: &HeldTables,
 ) -> io::Result<()> {
     let mut depths = vec![in alloc; lent::UNTOUCHED; m]?;
     let mut holes = vec![in alloc; lent::UNTOUCHED; h]?;
-    let mut works = Works::untouched(alloc, lengths)?;
+    let mut works = HeldWorks::untouched(alloc, lengths)?;
     let answer = counts_of(size, tables, &mut depths, &mut holes, &mut works);
     show::text(out, b"counts")?;
     show::number(out, answer::number(answer))?;
@@ -141,10 +141,10 @@ pub(crate) fn counts<W: Write>(
 // Counts the turns of the curves of seven tables into two tables, with work tables.
 fn turns_of(
     size: Size,
-    tables: &Tables,
+    tables: &HeldTables,
     right: &mut [u16],
     left: &mut [u16],
-    works: &mut Works,
+    works: &mut HeldWorks,
 ) -> Result<(), Refusal> {
     turns::turns(
         size.width,
@@ -172,12 +172,12 @@ pub(crate) fn turns<W: Write>(
     out: &mut W,
     size: Size,
     lengths: WorkLengths,
-    tables: &Tables,
+    tables: &HeldTables,
 ) -> io::Result<()> {
     let n = tables.next1.len();
     let mut right = vec![in alloc; lent::UNTOUCHED; n]?;
     let mut left = vec![in alloc; lent::UNTOUCHED; n]?;
-    let mut works = Works::untouched(alloc, lengths)?;
+    let mut works = HeldWorks::untouched(alloc, lengths)?;
     let answer = turns_of(size, tables, &mut right, &mut left, &mut works);
     show::text(out, b"turns")?;
     show::number(out, answer::number(answer))?;
@@ -186,7 +186,12 @@ pub(crate) fn turns<W: Write>(
 }
 
 // Asks for the depth of a name in seven tables, with work tables.
-fn depth_of(size: Size, name: u16, tables: &Tables, works: &mut Works) -> Result<u16, Refusal> {
+fn depth_of(
+    size: Size,
+    name: u16,
+    tables: &HeldTables,
+    works: &mut HeldWorks,
+) -> Result<u16, Refusal> {
     count::depth(
         size.width,
         size.height,
@@ -206,7 +211,12 @@ fn depth_of(size: Size, name: u16, tables: &Tables, works: &mut Works) -> Result
 }
 
 // Asks for the hole count of a name in seven tables, with work tables.
-fn holes_of(size: Size, name: u16, tables: &Tables, works: &mut Works) -> Result<u16, Refusal> {
+fn holes_of(
+    size: Size,
+    name: u16,
+    tables: &HeldTables,
+    works: &mut HeldWorks,
+) -> Result<u16, Refusal> {
     count::holes(
         size.width,
         size.height,
@@ -229,7 +239,7 @@ fn holes_of(size: Size, name: u16, tables: &Tables, works: &mut Works) -> Result
 fn show_counted<W: Write>(
     out: &mut W,
     answer: Result<u16, Refusal>,
-    works: &Works,
+    works: &HeldWorks,
 ) -> io::Result<()> {
     show::number(out, answer::number(answer))?;
     if let Ok(count) = answer {
@@ -245,9 +255,9 @@ pub(crate) fn depth<W: Write>(
     size: Size,
     name: u16,
     lengths: WorkLengths,
-    tables: &Tables,
+    tables: &HeldTables,
 ) -> io::Result<()> {
-    let mut works = Works::untouched(alloc, lengths)?;
+    let mut works = HeldWorks::untouched(alloc, lengths)?;
     let answer = depth_of(size, name, tables, &mut works);
     show::text(out, b"depth")?;
     show_counted(out, answer, &works)
@@ -260,9 +270,9 @@ pub(crate) fn holes<W: Write>(
     size: Size,
     name: u16,
     lengths: WorkLengths,
-    tables: &Tables,
+    tables: &HeldTables,
 ) -> io::Result<()> {
-    let mut works = Works::untouched(alloc, lengths)?;
+    let mut works = HeldWorks::untouched(alloc, lengths)?;
     let answer = holes_of(size, name, tables, &mut works);
     show::text(out, b"holes")?;
     show_counted(out, answer, &works)
@@ -275,10 +285,20 @@ fn name<W: Write>(
     size: Size,
     name: u16,
     lengths: WorkLengths,
-    tables: &Tables,
+    tables: &HeldTables,
 ) -> io::Result<()> {
-    let depth = depth_of(size, name, tables, &mut Works::untouched(alloc, lengths)?);
-    let holes = holes_of(size, name, tables, &mut Works::untouched(alloc, lengths)?);
+    let depth = depth_of(
+        size,
+        name,
+        tables,
+        &mut HeldWorks::untouched(alloc, lengths)?,
+    );
+    let holes = holes_of(
+        size,
+        name,
+        tables,
+        &mut HeldWorks::untouched(alloc, lengths)?,
+    );
     show_one(
         out,
         name,
@@ -293,7 +313,7 @@ pub(crate) fn names<W: Write>(
     out: &mut W,
     size: Size,
     lengths: WorkLengths,
-    tables: &Tables,
+    tables: &HeldTables,
 ) -> io::Result<()> {
     show::text(out, b"names")?;
     for i in 0..lent::names(size.width, size.height) {

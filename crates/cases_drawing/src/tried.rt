@@ -2,7 +2,7 @@ use crate::{asked, given};
 use answer::Refusal;
 use case_sheets::lengths::{Lengths, Size, WorkLengths};
 use case_sheets::{lengths, lent, made};
-use case_tables::tables::{Tables, Works};
+use case_tables::tables::{HeldTables, HeldWorks};
 use case_tables::{show, tables};
 use std::alloc::Global;
 use std::io;
@@ -14,12 +14,12 @@ fn show_tables<W: Write>(
     out: &mut W,
     full: bool,
     answer: Result<(), Refusal>,
-    tables: &Tables,
+    tables: &HeldTables,
 ) -> io::Result<()> {
     if answer.is_err() {
-        return show::kept(out, tables::all_untouched(tables));
+        return show::kept(out, tables::all_untouched(tables.tables()));
     }
-    tables::show(out, tables, full)
+    tables::show(out, tables.tables(), full)
 }
 
 // Writes what drawing a sheet answered.
@@ -27,13 +27,13 @@ fn show_drawn<W: Write>(
     out: &mut W,
     full: bool,
     answer: Result<(), Refusal>,
-    tables: &Tables,
-    works: &Works,
+    tables: &HeldTables,
+    works: &HeldWorks,
 ) -> io::Result<()> {
     show::text(out, b"drawing")?;
     show::number(out, answer::number(answer))?;
     show_tables(out, full, answer, tables)?;
-    tables::show_works(out, answer, works)?;
+    tables::show_works(out, answer::number(answer), works.works())?;
     show::line_end(out)
 }
 
@@ -45,7 +45,7 @@ fn ask<W: Write>(
     size: Size,
     full: bool,
     lengths: WorkLengths,
-    tables: &Tables,
+    tables: &HeldTables,
 ) -> io::Result<()> {
     let n = tables.parent.len();
     asked::counts(alloc, out, size, full, n, n, lengths, tables)?;
@@ -65,8 +65,8 @@ fn draw_lengths<W: Write>(
     full: bool,
     lengths: Lengths,
 ) -> io::Result<()> {
-    let mut tables = Tables::untouched(alloc, lengths)?;
-    let mut works = Works::untouched(alloc, lengths.works)?;
+    let mut tables = HeldTables::untouched(alloc, lengths)?;
+    let mut works = HeldWorks::untouched(alloc, lengths.works)?;
     let answer = case_drawing::draw(size, sheet, &mut tables, &mut works);
     show_drawn(out, full, answer, &tables, &works)?;
     if answer.is_ok() {

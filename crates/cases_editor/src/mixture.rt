@@ -5,7 +5,7 @@ use crate::{one, started};
 use case_sheets::lengths::{Lengths, Size, WorkLengths};
 use case_sheets::{lent, made};
 use case_tables::tables;
-use case_tables::tables::Tables;
+use case_tables::tables::HeldTables;
 use point_darts::dart;
 use point_darts::dart::Dart;
 use std::alloc::Global;
@@ -21,7 +21,7 @@ pub const ALL: u16 = 0;
 pub struct Left {
     pub replies: [u16; 8192],
     pub regions: [u16; 8192],
-    pub tables: Tables,
+    pub tables: HeldTables,
 }
 
 // How many calls a list has, at most 20,000.
@@ -57,7 +57,7 @@ fn make<W: Write>(
     calls: &[u16],
     whose: u16,
     lengths: WorkLengths,
-    tables: &mut Tables,
+    tables: &mut HeldTables,
     replies: &mut [u16],
 ) -> io::Result<()> {
     let count = count_of(calls);
@@ -137,7 +137,7 @@ pub(crate) fn left_by<W: Write>(
         &mut replies,
     )?;
     if whose == ALL {
-        tables::show(out, &tables, true)?;
+        tables::show(out, tables.tables(), true)?;
     }
     let regions = regions_of(size, &tables.side1);
     Ok(Left {

@@ -1,7 +1,7 @@
 use answer::Refusal;
 use case_sheets::lengths::{Size, WorkLengths};
 use case_tables::tables;
-use case_tables::tables::{Tables, Works};
+use case_tables::tables::{Answered, HeldTables, HeldWorks};
 use std::alloc::Global;
 use std::io;
 use std::io::Write;
@@ -19,8 +19,8 @@ fn join(
     size: Size,
     owners: &[u16],
     call: Call,
-    tables: &mut Tables,
-    works: &mut Works,
+    tables: &mut HeldTables,
+    works: &mut HeldWorks,
 ) -> Result<(), Refusal> {
     editor_call::join::join(
         size.width,
@@ -52,11 +52,16 @@ pub(crate) fn join_shown<W: Write>(
     owners: &[u16],
     call: Call,
     lengths: WorkLengths,
-    tables: &mut Tables,
+    tables: &mut HeldTables,
 ) -> io::Result<u16> {
     let before = tables.clone()?;
-    let mut works = Works::untouched(alloc, lengths)?;
+    let mut works = HeldWorks::untouched(alloc, lengths)?;
     let answer = join(size, owners, call, tables, &mut works);
-    tables::show_joined(out, answer, &before, tables, &works)?;
+    let joined = Answered {
+        answer,
+        tables: tables.tables(),
+        works: works.works(),
+    };
+    tables::show_joined(out, before.tables(), joined)?;
     Ok(answer::number(answer))
 }

@@ -1,6 +1,6 @@
 use answer::Refusal;
 use case_sheets::lengths::{Lengths, Size};
-use case_tables::tables::{Tables, Works};
+use case_tables::tables::{HeldTables, HeldWorks};
 use case_tables::{show, tables};
 use std::alloc::{AllocError, Global};
 use std::io;
@@ -11,8 +11,8 @@ fn start(
     size: Size,
     sheet: &[u16],
     owners: &[u16],
-    tables: &mut Tables,
-    works: &mut Works,
+    tables: &mut HeldTables,
+    works: &mut HeldWorks,
 ) -> Result<(), Refusal> {
     editor_call::start::start(
         size.width,
@@ -40,9 +40,9 @@ pub(crate) fn tables(
     sheet: &[u16],
     owners: &[u16],
     lengths: Lengths,
-) -> Result<Tables, AllocError> {
-    let mut tables = Tables::untouched(alloc, lengths)?;
-    let mut works = Works::untouched(alloc, lengths.works)?;
+) -> Result<HeldTables, AllocError> {
+    let mut tables = HeldTables::untouched(alloc, lengths)?;
+    let mut works = HeldWorks::untouched(alloc, lengths.works)?;
     let _ = start(size, sheet, owners, &mut tables, &mut works);
     Ok(tables)
 }
@@ -56,13 +56,13 @@ fn show_tables<W: Write>(
     sheet: &[u16],
     lengths: Lengths,
     answer: Result<(), Refusal>,
-    tables: &Tables,
+    tables: &HeldTables,
 ) -> io::Result<()> {
     if answer.is_err() {
-        return show::kept(out, tables::all_untouched(tables));
+        return show::kept(out, tables::all_untouched(tables.tables()));
     }
-    let mut drawn = Tables::untouched(alloc, lengths)?;
-    let mut works = Works::untouched(alloc, lengths.works)?;
+    let mut drawn = HeldTables::untouched(alloc, lengths)?;
+    let mut works = HeldWorks::untouched(alloc, lengths.works)?;
     let _ = case_drawing::draw(size, sheet, &mut drawn, &mut works);
     show::same(out, *tables == drawn)
 }
@@ -76,12 +76,12 @@ pub(crate) fn show<W: Write>(
     owners: &[u16],
     lengths: Lengths,
 ) -> io::Result<()> {
-    let mut tables = Tables::untouched(alloc, lengths)?;
-    let mut works = Works::untouched(alloc, lengths.works)?;
+    let mut tables = HeldTables::untouched(alloc, lengths)?;
+    let mut works = HeldWorks::untouched(alloc, lengths.works)?;
     let answer = start(size, sheet, owners, &mut tables, &mut works);
     show::text(out, b"start")?;
     show::number(out, answer::number(answer))?;
     show_tables(alloc, out, size, sheet, lengths, answer, &tables)?;
-    tables::show_works(out, answer, &works)?;
+    tables::show_works(out, answer::number(answer), works.works())?;
     show::line_end(out)
 }

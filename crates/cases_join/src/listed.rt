@@ -1,6 +1,5 @@
-use answer::Refusal;
 use case_sheets::lengths::{Size, WorkLengths};
-use case_tables::tables::{Tables, Works};
+use case_tables::tables::{HeldTables, HeldWorks};
 use case_tables::{show, tables};
 use join_call::list;
 use join_list::each::ListRefusal;
@@ -12,8 +11,8 @@ use std::io::Write;
 fn join(
     size: Size,
     names: &[u16],
-    tables: &mut Tables,
-    works: &mut Works,
+    tables: &mut HeldTables,
+    works: &mut HeldWorks,
 ) -> Result<(), ListRefusal> {
     list::join_list(
         size.width,
@@ -38,17 +37,18 @@ fn join(
 fn show_answer<W: Write>(
     out: &mut W,
     joined: Result<(), ListRefusal>,
-    before: &Tables,
-    tables: &Tables,
-    works: &Works,
+    before: &HeldTables,
+    tables: &HeldTables,
+    works: &HeldWorks,
 ) -> io::Result<()> {
-    let answer = joined.map_err(|refused| refused.refusal);
-    show::number(out, answer::number(answer))?;
+    let number = answer::number(joined.map_err(|refused| refused.refusal));
+    show::number(out, number)?;
     if let Err(refused) = joined {
-        write!(out, " place {}", refused.place)?;
+        show::text(out, b" place")?;
+        show::number(out, refused.place)?;
         show::kept(out, *before == *tables)?;
     }
-    tables::show_works(out, answer, works)
+    tables::show_works(out, number, works.works())
 }
 
 // Joins by a list of names, with work tables of these lengths, and writes what is answered.
@@ -58,10 +58,10 @@ pub(crate) fn join_shown<W: Write>(
     size: Size,
     names: &[u16],
     lengths: WorkLengths,
-    tables: &mut Tables,
+    tables: &mut HeldTables,
 ) -> io::Result<()> {
     let before = tables.clone()?;
-    let mut works = Works::untouched(alloc, lengths)?;
+    let mut works = HeldWorks::untouched(alloc, lengths)?;
     let joined = join(size, names, tables, &mut works);
     show_answer(out, joined, &before, tables, &works)
 }

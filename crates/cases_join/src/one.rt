@@ -1,7 +1,7 @@
 use answer::Refusal;
 use case_sheets::lengths::{Size, WorkLengths};
 use case_tables::tables;
-use case_tables::tables::{Tables, Works};
+use case_tables::tables::{Answered, HeldTables, HeldWorks};
 use join_call::regions;
 use std::alloc::Global;
 use std::io;
@@ -12,8 +12,8 @@ pub(crate) fn join(
     size: Size,
     first: u16,
     second: u16,
-    tables: &mut Tables,
-    works: &mut Works,
+    tables: &mut HeldTables,
+    works: &mut HeldWorks,
 ) -> Result<(), Refusal> {
     regions::join(
         size.width,
@@ -42,12 +42,17 @@ fn join_shown<W: Write>(
     first: u16,
     second: u16,
     lengths: WorkLengths,
-    tables: &mut Tables,
+    tables: &mut HeldTables,
 ) -> io::Result<()> {
     let before = tables.clone()?;
-    let mut works = Works::untouched(alloc, lengths)?;
+    let mut works = HeldWorks::untouched(alloc, lengths)?;
     let answer = join(size, first, second, tables, &mut works);
-    tables::show_joined(out, answer, &before, tables, &works)
+    let joined = Answered {
+        answer,
+        tables: tables.tables(),
+        works: works.works(),
+    };
+    tables::show_joined(out, before.tables(), joined)
 }
 
 // Joins the names of a list, two by two.
@@ -57,7 +62,7 @@ pub(crate) fn join_all<W: Write>(
     size: Size,
     names: &[u16],
     lengths: WorkLengths,
-    tables: &mut Tables,
+    tables: &mut HeldTables,
 ) -> io::Result<()> {
     for pair in names.chunks_exact(2) {
         join_shown(alloc, out, size, pair[0], pair[1], lengths, tables)?;

@@ -4,7 +4,7 @@ use crate::one;
 use answer::Refusal;
 use case_sheets::lengths::{Lengths, Size};
 use case_sheets::lent;
-use case_tables::tables::{Tables, Works};
+use case_tables::tables::{HeldTables, HeldWorks};
 use case_tables::{show, tables};
 use point_darts::dart;
 use point_darts::dart::Dart;
@@ -73,9 +73,9 @@ pub(crate) fn drawn(
     size: Size,
     sheet: &[u16],
     lengths: Lengths,
-) -> Result<Tables, AllocError> {
-    let mut tables = Tables::untouched(alloc, lengths)?;
-    let mut works = Works::untouched(alloc, lengths.works)?;
+) -> Result<HeldTables, AllocError> {
+    let mut tables = HeldTables::untouched(alloc, lengths)?;
+    let mut works = HeldWorks::untouched(alloc, lengths.works)?;
     let _ = case_drawing::draw(size, sheet, &mut tables, &mut works);
     Ok(tables)
 }
@@ -89,12 +89,12 @@ fn show_standing<W: Write>(
     lengths: Lengths,
     names: &[u16],
     done: u64,
-    tables: &Tables,
+    tables: &HeldTables,
 ) -> io::Result<()> {
     let left = regions_left(&tables.parent);
     write!(out, "\nsitting {done} {left}")?;
     show::same(out, *tables == drawn(alloc, size, names, lengths)?)?;
-    tables::show(out, tables, false)
+    tables::show(out, tables.tables(), false)
 }
 
 // Whether a join was done, and so many joins are a multiple of a number.
@@ -138,7 +138,7 @@ pub(crate) fn sit<W: Write>(
     lengths: Lengths,
     pace: Pace,
     names: &mut [u16],
-    tables: &mut Tables,
+    tables: &mut HeldTables,
 ) -> io::Result<()> {
     let slots = lent::slots(size.width, size.height);
     let mut done: u64 = 0;
@@ -147,7 +147,7 @@ pub(crate) fn sit<W: Write>(
         let sides = sides_of(size, &tables.side1, number);
         number = stride_on(number, pace.stride, slots);
         if are_regions(sides) {
-            let mut works = Works::untouched(alloc, lengths.works)?;
+            let mut works = HeldWorks::untouched(alloc, lengths.works)?;
             let answer = one::join(size, sides.right, sides.left, tables, &mut works);
             done = counted_on(out, answer, sides, names, done)?;
             if is_due(answer, done, pace.every) {

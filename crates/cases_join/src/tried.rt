@@ -1,8 +1,10 @@
+ghost use Rattle.case_sheets.specs.Room.{Fits};
+
 use crate::sitting::Pace;
 use crate::{listed, one, sitting};
 use case_sheets::lengths::{Lengths, Size, WorkLengths};
 use case_sheets::{lengths, lent, made};
-use case_tables::tables::Tables;
+use case_tables::tables::HeldTables;
 use case_tables::{show, tables};
 use std::alloc::Global;
 use std::io;
@@ -18,7 +20,7 @@ fn join_given<W: Write>(
     lengths: Lengths,
 ) -> io::Result<()> {
     let list = lent::from(values, 2);
-    let mut tables = tables::of_list(alloc, lengths, lent::from(list, 11))?;
+    let mut tables = tables::of_list(alloc, list, lent::from(list, 11))?;
     let names = lent::part(values, 0, 2);
     one::join_all(alloc, out, size, names, lengths.works, &mut tables)
 }
@@ -38,7 +40,7 @@ fn list_given<W: Write>(
 ) -> io::Result<()> {
     let end = list_end(values);
     let list = lent::from(values, end);
-    let mut tables = tables::of_list(alloc, lengths, lent::from(list, 11))?;
+    let mut tables = tables::of_list(alloc, list, lent::from(list, 11))?;
     let names = lent::part(values, 1, end);
     listed::join_shown(alloc, out, size, names, lengths.works, &mut tables)
 }
@@ -51,15 +53,15 @@ fn join_names<W: Write>(
     size: Size,
     names: &[u16],
     lengths: WorkLengths,
-    tables: &mut Tables,
+    tables: &mut HeldTables,
 ) -> io::Result<()> {
     if kind == b'L' {
         listed::join_shown(alloc, out, size, names, lengths, tables)?;
-        return tables::show(out, tables, true);
+        return tables::show(out, tables.tables(), true);
     }
     one::join_all(alloc, out, size, names, lengths, tables)?;
     if kind == b'T' {
-        tables::show(out, tables, true)?;
+        tables::show(out, tables.tables(), true)?;
     }
     Ok(())
 }
@@ -98,7 +100,9 @@ fn go<W: Write>(
 }
 
 // The lengths of the tables of a case: those that it gives with its tables, else the stated ones.
-fn lengths_of(kind: u8, size: Size, values: &[u16]) -> Lengths {
+fn lengths_of(kind: u8, size: Size, values: &[u16]) -> Lengths
+    ensures { Fits result }
+{
     match kind {
         b'J' => lengths::given(lent::from(values, 2)),
         b'M' => lengths::given(lent::from(values, list_end(values))),

@@ -1,6 +1,6 @@
 use answer::Refusal;
 use case_sheets::{lengths, lent, made};
-use case_tables::tables::Works;
+use case_tables::tables::HeldWorks;
 use case_tables::{show, tables};
 use std::alloc::{AllocError, Global};
 use std::io;
@@ -35,7 +35,12 @@ impl Level {
 }
 
 // Draws a level of a sheet into result tables, with work tables.
-fn draw(case: Case, sheet: &[u16], level: &mut Level, works: &mut Works) -> Result<(), Refusal> {
+fn draw(
+    case: Case,
+    sheet: &[u16],
+    level: &mut Level,
+    works: &mut HeldWorks,
+) -> Result<(), Refusal> {
     level_call::draw::draw(
         case.width,
         case.height,
@@ -79,12 +84,12 @@ fn show_drawn<W: Write>(
     full: bool,
     answer: Result<(), Refusal>,
     level: &Level,
-    works: &Works,
+    works: &HeldWorks,
 ) -> io::Result<()> {
     show::text(out, b"level")?;
     show::number(out, answer::number(answer))?;
     show_tables(out, full, answer, level)?;
-    tables::show_works(out, answer, works)?;
+    tables::show_works(out, answer::number(answer), works.works())?;
     show::line_end(out)
 }
 
@@ -98,7 +103,7 @@ fn draw_case<W: Write>(
     full: bool,
 ) -> io::Result<()> {
     let mut level = Level::untouched(alloc, list)?;
-    let mut works = Works::untouched(alloc, lengths::works(lent::from(list, 3)))?;
+    let mut works = HeldWorks::untouched(alloc, lengths::works(lent::from(list, 3)))?;
     let answer = draw(case, sheet, &mut level, &mut works);
     show_drawn(out, full, answer, &level, &works)
 }

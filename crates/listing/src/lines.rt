@@ -2,6 +2,7 @@
 ghost use Rattle.std.specs.Prelude.{◌≡◌, not, ◌==◌, min, length, count_by};
 ghost use Rattle.point_darts.specs.Dart.{mark};
 
+use crate::page::Page;
 use point_darts::dart::MARK;
 use sheet_size::Size;
 use std::io;
@@ -26,12 +27,19 @@ fn length_of(table: &[u16]) -> u16
 
 // The line of a refusal.
 pub(crate) fn refused<W: Write>(out: &mut W, number: u16, card: u16) -> io::Result<()> {
-    writeln!(out, "REFUSED {number} CARD {card}")
+    let mut page = Page::new();
+    page.text(out, b"REFUSED")?;
+    page.number(out, number as u64)?;
+    page.text(out, b" CARD")?;
+    page.number(out, card as u64)?;
+    page.byte(out, b'\n')?;
+    page.write_out(out)
 }
 
 // The lines of the regions, by name: of each name that is in use its label as a byte, its parent, its depth and its holes.
 fn regions<W: Write>(
     out: &mut W,
+    page: &mut Page,
     sheet: &[u16],
     parent: &[u16],
     depths: &[u16],
@@ -41,11 +49,14 @@ fn regions<W: Write>(
         let name = i + 1;
         let up = entry::get(parent, name);
         if up != MARK {
-            let depth = entry::get(depths, name);
-            let holes = entry::get(holes, name);
-            write!(out, "R {name} ")?;
-            out.write_all(&[(entry::get(sheet, i) % 256) as u8])?;
-            writeln!(out, " {up} {depth} {holes}")?;
+            page.byte(out, b'R')?;
+            page.number(out, name as u64)?;
+            page.byte(out, b' ')?;
+            page.byte(out, (entry::get(sheet, i) % 256) as u8)?;
+            page.number(out, up as u64)?;
+            page.number(out, entry::get(depths, name) as u64)?;
+            page.number(out, entry::get(holes, name) as u64)?;
+            page.byte(out, b'\n')?;
         }
     }
     Ok(())
@@ -55,6 +66,7 @@ fn regions<W: Write>(
 // left turns from the smaller.
 fn curves<W: Write>(
     out: &mut W,
+    page: &mut Page,
     other3: &[u16],
     side1: &[u16],
     right: &[u16],
@@ -63,11 +75,14 @@ fn curves<W: Write>(
     for dart in 0..length_of(other3) {
         let other = entry::get(other3, dart);
         if other != MARK && dart <= other {
-            let side = entry::get(side1, dart);
-            let beyond = entry::get(side1, other);
-            let right = entry::get(right, dart);
-            let left = entry::get(left, dart);
-            writeln!(out, "C {dart} {other} {side} {beyond} {right} {left}")?;
+            page.byte(out, b'C')?;
+            page.number(out, dart as u64)?;
+            page.number(out, other as u64)?;
+            page.number(out, entry::get(side1, dart) as u64)?;
+            page.number(out, entry::get(side1, other) as u64)?;
+            page.number(out, entry::get(right, dart) as u64)?;
+            page.number(out, entry::get(left, dart) as u64)?;
+            page.byte(out, b'\n')?;
         }
     }
     Ok(())
@@ -87,10 +102,16 @@ pub(crate) fn listing<W: Write>(
     right: &[u16],
     left: &[u16],
 ) -> io::Result<()> {
-    let Size { width, height, .. } = size;
-    let names = entries(parent);
-    let edges = entries(other3) / 2;
-    writeln!(out, "SHEET {width} {height} REGIONS {names} CURVES {edges}")?;
-    regions(out, sheet, parent, depths, holes)?;
-    curves(out, other3, side1, right, left)
+    let mut page = Page::new();
+    page.text(out, b"SHEET")?;
+    page.number(out, size.width as u64)?;
+    page.number(out, size.height as u64)?;
+    page.text(out, b" REGIONS")?;
+    page.number(out, entries(parent) as u64)?;
+    page.text(out, b" CURVES")?;
+    page.number(out, (entries(other3) / 2) as u64)?;
+    page.byte(out, b'\n')?;
+    regions(out, &mut page, sheet, parent, depths, holes)?;
+    curves(out, &mut page, other3, side1, right, left)?;
+    page.write_out(out)
 }

@@ -1,53 +1,56 @@
 // Lists the sheet of the deck on standard input: a line for the sheet, then a line for each region and for each edge of
 // level 3. A deck that is refused is answered by one line, with the number of the refusal and of the card.
+// Tables, deck and page are arrays: the listing takes no memory but its stack, and no table of it can fail to be made.
 #![tactic(auto)]
 
 mod lines;
+mod page;
 
-ghost use Rattle.std.specs.Prelude.{◌≡◌, ◌*◌, ◌≤◌, IfOk, vec_len};
+ghost use Rattle.std.specs.Prelude.{◌≡◌, ◌*◌, ◌≤◌, length, IfOk};
 ghost use Rattle.sheet_size.specs.Size.{widest, tallest};
 ghost use Rattle.point_darts.specs.Dart.{slots};
+ghost use Rattle.listing.specs.Room.{room};
 
 use answer::Refusal;
 use count_turns::turns;
 use deck_card::card::LONG;
 use deck_reading::read::CELLS;
+use page::Page;
 use point_darts::dart;
-use sheet_size::{Size, TALLEST};
-use std::alloc::{AllocError, Global};
+use sheet_size::{Size, TALLEST, WIDEST};
 use std::io;
-use std::io::{BufWriter, Input, Read, Write};
+use std::io::{Input, Write};
+
+// The most slots of darts of a sheet, which are more than its names.
+const SLOTS: usize = 4 * (WIDEST as usize + 1) * (TALLEST as usize + 1);
 
 // The bytes of the longest deck, which has two cards a row, and one more, so that bytes after its last card are seen.
 const BYTES: usize = LONG * (2 * TALLEST as usize + 1) + 1;
 
-// How many bytes wait before they are written out.
-const PAGE: usize = 65536;
-
-// The seven tables of a drawing.
-#[derive(Drop)]
+// The seven tables of a drawing, each with room for the largest.
+#[derive(Clone, Copy)]
 struct Tables {
-    next1: Vec<u16>,
-    side1: Vec<u16>,
-    next3: Vec<u16>,
-    other3: Vec<u16>,
-    parent: Vec<u16>,
-    cells: Vec<u16>,
-    borders: Vec<u16>,
+    next1: [u16; SLOTS],
+    side1: [u16; SLOTS],
+    next3: [u16; SLOTS],
+    other3: [u16; SLOTS],
+    parent: [u16; SLOTS],
+    cells: [u16; SLOTS],
+    borders: [u16; SLOTS],
 }
 
 // The depth and the hole count of each name.
-#[derive(Drop)]
+#[derive(Clone, Copy)]
 struct Counted {
-    depths: Vec<u16>,
-    holes: Vec<u16>,
+    depths: [u16; SLOTS],
+    holes: [u16; SLOTS],
 }
 
 // The right turns and the left turns of each dart of level 3.
-#[derive(Drop)]
+#[derive(Clone, Copy)]
 struct Turned {
-    right: Vec<u16>,
-    left: Vec<u16>,
+    right: [u16; SLOTS],
+    left: [u16; SLOTS],
 }
 
 // How many cells a sheet has.
@@ -58,131 +61,144 @@ fn cells_of(size: Size) -> usize
     (size.width * size.height) as usize
 }
 
-// Draws a sheet. One that was read is not refused; were it, the tables would be no drawing.
-fn draw(alloc: Global, size: Size, sheet: &[u16]) -> Result<Tables, AllocError>
-    ensures { IfOk result (λ tables. vec_len tables.next1 ≡ slots size.width size.height) }
+// How many slots of darts a sheet has.
+fn slots_of(size: Size) -> usize
+    ensures { (result ≡ slots size.width size.height) × (result ≤ room) }
 {
-    let slots = dart::slots(size) as usize;
+    dart::slots(size) as usize
+}
+
+// Draws a sheet. One that was read is not refused; were it, the tables would be no drawing.
+fn draw(size: Size, sheet: &[u16]) -> Tables {
+    let slots = slots_of(size);
     let names = cells_of(size) + 1;
     let mut tables = Tables {
-        next1: vec![in alloc; 0u16; slots]?,
-        side1: vec![in alloc; 0u16; slots]?,
-        next3: vec![in alloc; 0u16; slots]?,
-        other3: vec![in alloc; 0u16; slots]?,
-        parent: vec![in alloc; 0u16; names]?,
-        cells: vec![in alloc; 0u16; names]?,
-        borders: vec![in alloc; 0u16; names]?,
+        next1: [0; SLOTS],
+        side1: [0; SLOTS],
+        next3: [0; SLOTS],
+        other3: [0; SLOTS],
+        parent: [0; SLOTS],
+        cells: [0; SLOTS],
+        borders: [0; SLOTS],
     };
-    let mut a = vec![in alloc; 0u16; slots]?;
-    let mut b = vec![in alloc; 0u16; slots]?;
-    let mut c = vec![in alloc; 0u16; slots]?;
-    let mut d = vec![in alloc; 0u16; slots]?;
+    let mut a = [0u16; SLOTS];
+    let mut b = [0u16; SLOTS];
+    let mut c = [0u16; SLOTS];
+    let mut d = [0u16; SLOTS];
     let _ = drawing::draw::draw(
         size.width,
         size.height,
         sheet,
-        &mut tables.next1,
-        &mut tables.side1,
-        &mut tables.next3,
-        &mut tables.other3,
-        &mut tables.parent,
-        &mut tables.cells,
-        &mut tables.borders,
-        &mut a,
-        &mut b,
-        &mut c,
-        &mut d,
+        &mut tables.next1[..slots],
+        &mut tables.side1[..slots],
+        &mut tables.next3[..slots],
+        &mut tables.other3[..slots],
+        &mut tables.parent[..names],
+        &mut tables.cells[..names],
+        &mut tables.borders[..names],
+        &mut a[..slots],
+        &mut b[..slots],
+        &mut c[..slots],
+        &mut d[..slots],
     );
-    Ok(tables)
+    tables
 }
 
 // Counts the depths and holes of a drawing, or says why the counts refuse it.
-fn count(
-    alloc: Global,
-    size: Size,
-    tables: &Tables,
-) -> Result<Result<Counted, Refusal>, AllocError> {
-    let slots = tables.next1.len();
-    let names = tables.parent.len();
-    let mut depths = vec![in alloc; 0u16; names]?;
-    let mut holes = vec![in alloc; 0u16; names]?;
-    let mut a = vec![in alloc; 0u16; slots]?;
-    let mut b = vec![in alloc; 0u16; slots]?;
-    let mut c = vec![in alloc; 0u16; slots]?;
-    let mut d = vec![in alloc; 0u16; slots]?;
-    let answer = count_call::count::counts(
+fn count(size: Size, tables: &Tables) -> Result<Counted, Refusal> {
+    let slots = slots_of(size);
+    let names = cells_of(size) + 1;
+    let mut depths = [0u16; SLOTS];
+    let mut holes = [0u16; SLOTS];
+    let mut a = [0u16; SLOTS];
+    let mut b = [0u16; SLOTS];
+    let mut c = [0u16; SLOTS];
+    let mut d = [0u16; SLOTS];
+    count_call::count::counts(
         size.width,
         size.height,
-        &tables.next1,
-        &tables.side1,
-        &tables.next3,
-        &tables.other3,
-        &tables.parent,
-        &tables.cells,
-        &tables.borders,
-        &mut depths,
-        &mut holes,
-        &mut a,
-        &mut b,
-        &mut c,
-        &mut d,
-    );
-    Ok(answer.map(|()| Counted { depths, holes }))
+        &tables.next1[..slots],
+        &tables.side1[..slots],
+        &tables.next3[..slots],
+        &tables.other3[..slots],
+        &tables.parent[..names],
+        &tables.cells[..names],
+        &tables.borders[..names],
+        &mut depths[..names],
+        &mut holes[..names],
+        &mut a[..slots],
+        &mut b[..slots],
+        &mut c[..slots],
+        &mut d[..slots],
+    )?;
+    Ok(Counted { depths, holes })
 }
 
 // Counts the turns of the curves of a drawing.
-fn turn(alloc: Global, size: Size, tables: &Tables) -> Result<Turned, AllocError>
-    requires { vec_len tables.now.next1 ≡ slots size.width size.height }
-{
-    let slots = tables.next1.len();
-    let mut right = vec![in alloc; 0u16; slots]?;
-    let mut left = vec![in alloc; 0u16; slots]?;
+fn turn(size: Size, tables: &Tables) -> Turned {
+    let slots = slots_of(size);
+    let mut right = [0u16; SLOTS];
+    let mut left = [0u16; SLOTS];
     turns::all_turns(
         size,
-        &tables.next1,
-        &tables.next3,
-        &tables.other3,
-        &mut right,
-        &mut left,
+        &tables.next1[..slots],
+        &tables.next3[..slots],
+        &tables.other3[..slots],
+        &mut right[..slots],
+        &mut left[..slots],
     );
-    Ok(Turned { right, left })
+    Turned { right, left }
 }
 
 // Lists a sheet. One that was read is not refused; were it, there would be no listing.
-fn list_sheet<W: Write>(out: &mut W, alloc: Global, size: Size, sheet: &[u16]) -> io::Result<()> {
-    let tables = draw(alloc, size, sheet)?;
-    let Ok(counted) = count(alloc, size, &tables)? else {
+fn list_sheet<W: Write>(out: &mut W, size: Size, sheet: &[u16]) -> io::Result<()> {
+    let slots = slots_of(size);
+    let names = cells_of(size) + 1;
+    let tables = draw(size, sheet);
+    let Ok(counted) = count(size, &tables) else {
         return Ok(());
     };
-    let turned = turn(alloc, size, &tables)?;
+    let turned = turn(size, &tables);
     lines::listing(
         out,
         size,
         sheet,
-        &tables.parent,
-        &counted.depths,
-        &counted.holes,
-        &tables.other3,
-        &tables.side1,
-        &turned.right,
-        &turned.left,
+        &tables.parent[..names],
+        &counted.depths[..names],
+        &counted.holes[..names],
+        &tables.other3[..slots],
+        &tables.side1[..slots],
+        &turned.right[..slots],
+        &turned.left[..slots],
     )
 }
 
 // Lists the sheet of a deck, or says why the deck is refused.
-fn list_deck<W: Write>(out: &mut W, alloc: Global, deck: &[u8]) -> io::Result<()> {
-    let mut cells = vec![in alloc; 0u16; CELLS]?;
+fn list_deck<W: Write>(out: &mut W, deck: &[u8]) -> io::Result<()> {
+    let mut cells = [0u16; CELLS];
     match deck_reading::read::read(deck, &mut cells) {
-        Ok(size) => list_sheet(out, alloc, size, &cells[..cells_of(size)]),
+        Ok(size) => list_sheet(out, size, &cells[..cells_of(size)]),
         Err(refusal) => lines::refused(out, refusal.fault.into(), refusal.card),
     }
 }
 
+// Reads bytes until there is no more room, or no more of them, and answers how many there are.
+fn read_full<R: io::Read>(from: &mut R, bytes: &mut [u8]) -> io::Result<usize>
+    ensures { IfOk result (λ n. n ≤ length bytes.new) }
+{
+    let mut n = 0;
+    while n < bytes.len() {
+        let more = from.read(&mut bytes[n..])?;
+        if more == 0 {
+            return Ok(n);
+        }
+        n += more;
+    }
+    Ok(n)
+}
+
 fn main(rt: HostRuntime) -> io::Result<()> {
-    let alloc = rt.alloc();
-    let mut deck = Vec::with_capacity(alloc, BYTES)?;
-    rt.reader().take(BYTES as u64).read_to_end(&mut deck)?;
-    let mut out = BufWriter::with_capacity(alloc, PAGE, io::writer(&rt))?;
-    list_deck(&mut out, alloc, &deck)?;
-    out.flush()
+    let mut bytes = [0u8; BYTES];
+    let n = read_full(&mut rt.reader(), &mut bytes)?;
+    list_deck(&mut io::writer(&rt), &bytes[..n])
 }

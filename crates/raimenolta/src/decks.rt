@@ -7,6 +7,7 @@ ghost use Rattle.paper.specs.Refusal.{ended};
 ghost use Rattle.raimenolta.specs.Slot.{carded, slotted_twice};
 
 use deck_card::answer::{part_number, write_number};
+use raimenolta_values::read;
 
 // Reads a deck into the cell table. When it is done the size holds the width and the height, and the card is left as it
 // was; a refusal leaves the size, and the card holds the number of the card. Refusals 26, then card by card 25, 20, 22, then
@@ -22,7 +23,7 @@ pub extern "C" fn raimenolta_read(
         slotted_twice (carded (reading deck.now cells.old)) size.old (card.old ∷ []) }
 {
     let answer = deck_reading::read::read(deck, cells);
-    raimenolta_values::read::put(answer, size, card)
+    read::put(read::numbers(answer), size, card)
 }
 
 // Writes the deck of a sheet. Refusals 1, 3, 4 and 27.

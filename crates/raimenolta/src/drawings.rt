@@ -11,6 +11,7 @@ ghost use Rattle.join_call.specs.Faithful.{Faithful};
 ghost use Rattle.raimenolta.specs.Slot.{slotted, place_slotted};
 
 use check_call::check;
+use raimenolta_values::{count, list};
 
 // Checks whether the seven tables are the drawing of some sheet of this size. Refusals 1, 4 and 5.
 #[unsafe(no_mangle)]
@@ -131,7 +132,7 @@ pub extern "C" fn raimenolta_join_list(
         width, height, next1, side1, next3, other3, parent, cells, borders, names, work_a, work_b,
         work_c, work_d,
     );
-    raimenolta_values::list::put(answer, place)
+    list::put(list::numbers(answer), place)
 }
 
 // Puts the depth of a region, or of the outside for the name 0, into a lent slot. Refusals 1, 4, 5 and 8, which leave the
@@ -172,7 +173,7 @@ pub extern "C" fn raimenolta_depth(
         width, height, next1, side1, next3, other3, parent, cells, borders, name, work_a, work_b,
         work_c, work_d,
     );
-    raimenolta_values::count::put(answer, depth)
+    count::put(count::numbers(answer), depth)
 }
 
 // Puts the hole count of a region, or of the outside for the name 0, into a lent slot. Refusals 1, 4, 5 and 8, which leave
@@ -213,7 +214,7 @@ pub extern "C" fn raimenolta_holes(
         width, height, next1, side1, next3, other3, parent, cells, borders, name, work_a, work_b,
         work_c, work_d,
     );
-    raimenolta_values::count::put(answer, holes)
+    count::put(count::numbers(answer), holes)
 }
 
 // Depth and hole count of every name at once, the mark for a name that is not in use. Refusals 1, 4 and 5.
