@@ -74,7 +74,10 @@ fn region_of(left: &Left, name: u16) -> Region {
 // Writes what is said of a region, and whether the same is said among the other's calls; nothing where it is present neither time.
 fn show_region<W: Write>(out: &mut W, name: u16, region: Region, among: Region) -> io::Result<()> {
     if region.present | among.present {
-        write!(out, " ; {name} {} {}", region.cells, region.borders)?;
+        show::text(out, b" ;")?;
+        show::number(out, name)?;
+        show::number(out, region.cells)?;
+        show::number(out, region.borders)?;
         show::same(out, region == among)?;
     }
     Ok(())
@@ -111,7 +114,8 @@ pub(crate) fn show<W: Write>(
     lengths: Lengths,
     among: &Left,
 ) -> io::Result<()> {
-    write!(out, "alone {editor}")?;
+    show::text(out, b"alone")?;
+    show::number(out, editor)?;
     let left = mixture::left_by(alloc, out, size, sheet, owners, calls, editor, lengths)?;
     show::same(
         out,

@@ -92,7 +92,9 @@ fn show_standing<W: Write>(
     tables: &HeldTables,
 ) -> io::Result<()> {
     let left = regions_left(&tables.parent);
-    write!(out, "\nsitting {done} {left}")?;
+    show::text(out, b"\nsitting")?;
+    show::number(out, done)?;
+    show::number(out, left)?;
     show::same(out, *tables == drawn(alloc, size, names, lengths)?)?;
     tables::show(out, tables.tables(), false)
 }
@@ -114,7 +116,8 @@ fn counted_on<W: Write>(
     ensures { IfOk result (λ count. count ≤ done + 1) }
 {
     if answer.is_err() {
-        write!(out, "\nrefused {}", answer::number(answer))?;
+        show::text(out, b"\nrefused")?;
+        show::number(out, answer::number(answer))?;
         return Ok(done);
     }
     lower(sides, names);
