@@ -127,7 +127,7 @@ pub fn given<'a>(lengths: &[u16], list: &'a [u16]) -> Tables<'a> {
 }
 
 // The same tables, held; what the list has not is as no call has touched it.
-pub fn of_list(alloc: Global, lengths: &[u16], list: &[u16]) -> Result<HeldTables, AllocError> {
+pub fn held(alloc: Global, lengths: &[u16], list: &[u16]) -> Result<HeldTables, AllocError> {
     let given = given(lengths, list);
     let mut tables = HeldTables::untouched(alloc, lengths::given(lengths))?;
     lent::copy(given.next1, &mut tables.next1);
@@ -137,6 +137,26 @@ pub fn of_list(alloc: Global, lengths: &[u16], list: &[u16]) -> Result<HeldTable
     lent::copy(given.parent, &mut tables.parent);
     lent::copy(given.cells, &mut tables.cells);
     lent::copy(given.borders, &mut tables.borders);
+    Ok(tables)
+}
+
+// Tables of these lengths, which may be more than the room, with the numbers that stand one after another in a list; what the list has
+// not is as no call has touched it.
+pub fn of_list(alloc: Global, lengths: Lengths, list: &[u16]) -> Result<HeldTables, AllocError> {
+    let mut tables = HeldTables::untouched(alloc, lengths)?;
+    let side1 = lent::from(list, lengths.next1);
+    let next3 = lent::from(side1, lengths.side1);
+    let other3 = lent::from(next3, lengths.next3);
+    let parent = lent::from(other3, lengths.other3);
+    let cells = lent::from(parent, lengths.parent);
+    let borders = lent::from(cells, lengths.cells);
+    lent::copy(list, &mut tables.next1);
+    lent::copy(side1, &mut tables.side1);
+    lent::copy(next3, &mut tables.next3);
+    lent::copy(other3, &mut tables.other3);
+    lent::copy(parent, &mut tables.parent);
+    lent::copy(cells, &mut tables.cells);
+    lent::copy(borders, &mut tables.borders);
     Ok(tables)
 }
 
@@ -201,4 +221,72 @@ pub fn show_joined<W: Write>(
         show::kept(out, before == joined.tables)?;
     }
     show_works(out, number, joined.works)
+}
+
+#[cfg(test)]
+mod tests {
+    use super::*;
+    use std::test::Fail;
+
+    // The list goes on after the tables.
+    #[test]
+    fn tables_of_a_list(rt: HostRuntime) -> Result<(), Fail> {
+        let lengths = Lengths {
+            next1: 1,
+            side1: 2,
+            next3: 3,
+            other3: 4,
+            parent: 5,
+            cells: 6,
+            borders: 7,
+            works: lengths::works(&[]),
+        };
+        let list = [
+            11, 21, 22, 31, 32, 33, 41, 42, 43, 44, 51, 52, 53, 54, 55, 61, 62, 63, 64, 65, 66, 71,
+            72, 73, 74, 75, 76, 77, 81, 82,
+        ];
+        let tables = of_list(rt.alloc(), lengths, &list)?;
+        assert_eq!(rt; tables.next1.as_slice(), [11].as_slice());
+        assert_eq!(rt; tables.side1.as_slice(), [21, 22].as_slice());
+        assert_eq!(rt; tables.next3.as_slice(), [31, 32, 33].as_slice());
+        assert_eq!(rt; tables.other3.as_slice(), [41, 42, 43, 44].as_slice());
+        assert_eq!(rt; tables.parent.as_slice(), [51, 52, 53, 54, 55].as_slice());
+        assert_eq!(rt;
+            tables.cells.as_slice(),
+            [61, 62, 63, 64, 65, 66].as_slice()
+        );
+        assert_eq!(rt;
+            tables.borders.as_slice(),
+            [71, 72, 73, 74, 75, 76, 77].as_slice()
+        );
+        Ok(())
+    }
+
+    // The lengths are past the room, and the list ends in the first table.
+    #[test]
+    fn tables_past_the_room(rt: HostRuntime) -> Result<(), Fail> {
+        let lengths = Lengths {
+            next1: lent::ROOM + 1,
+            side1: lent::ROOM + 2,
+            next3: lent::ROOM + 3,
+            other3: lent::ROOM + 4,
+            parent: lent::ROOM + 5,
+            cells: lent::ROOM + 6,
+            borders: 70000,
+            works: lengths::works(&[]),
+        };
+        let tables = of_list(rt.alloc(), lengths, &[11, 12])?;
+        assert_eq!(rt; tables.next1.len(), lent::ROOM + 1);
+        assert_eq!(rt; tables.side1.len(), lent::ROOM + 2);
+        assert_eq!(rt; tables.next3.len(), lent::ROOM + 3);
+        assert_eq!(rt; tables.other3.len(), lent::ROOM + 4);
+        assert_eq!(rt; tables.parent.len(), lent::ROOM + 5);
+        assert_eq!(rt; tables.cells.len(), lent::ROOM + 6);
+        assert_eq!(rt; tables.borders.len(), 70000);
+        assert_eq!(rt; lent::part(&tables.next1, 0, 2), [11, 12].as_slice());
+        assert!(rt; untouched(lent::from(&tables.next1, 2)));
+        assert!(rt; untouched(&tables.side1));
+        assert!(rt; untouched(&tables.borders));
+        Ok(())
+    }
 }

@@ -18,7 +18,7 @@ pub(crate) fn run<W: Write>(
     let depths = lent::length(list, 7);
     let holes = lent::length(list, 8);
     let works = lengths::works(lent::from(list, 9));
-    let tables = tables::of_list(alloc, list, lent::from(list, 13))?;
+    let tables = tables::held(alloc, list, lent::from(list, 13))?;
     asked::check(alloc, out, size, works, &tables)?;
     asked::counts(alloc, out, size, true, depths, holes, works, &tables)?;
     asked::turns(alloc, out, size, works, &tables)?;

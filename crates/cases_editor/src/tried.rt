@@ -30,7 +30,7 @@ fn join_given<W: Write>(alloc: Global, out: &mut W, size: Size, values: &[u16]) 
     let list = lent::from(values, 4);
     let owners = lent::part(list, 11, 11 + names);
     let lengths = lengths::given(list);
-    let mut tables = tables::of_list(alloc, list, lent::from(list, 11 + names))?;
+    let mut tables = tables::held(alloc, list, lent::from(list, 11 + names))?;
     show::text(out, b"join")?;
     one::join_shown(alloc, out, size, owners, call, lengths.works, &mut tables)?;
     show::line_end(out)

@@ -20,7 +20,7 @@ fn join_given<W: Write>(
     lengths: Lengths,
 ) -> io::Result<()> {
     let list = lent::from(values, 2);
-    let mut tables = tables::of_list(alloc, list, lent::from(list, 11))?;
+    let mut tables = tables::held(alloc, list, lent::from(list, 11))?;
     let names = lent::part(values, 0, 2);
     one::join_all(alloc, out, size, names, lengths.works, &mut tables)
 }
@@ -40,7 +40,7 @@ fn list_given<W: Write>(
 ) -> io::Result<()> {
     let end = list_end(values);
     let list = lent::from(values, end);
-    let mut tables = tables::of_list(alloc, list, lent::from(list, 11))?;
+    let mut tables = tables::held(alloc, list, lent::from(list, 11))?;
     let names = lent::part(values, 1, end);
     listed::join_shown(alloc, out, size, names, lengths.works, &mut tables)
 }
